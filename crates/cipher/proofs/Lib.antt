@@ -1,0 +1,3 @@
+pub mod ByteLaws
+pub mod KeyLaws
+pub mod Rc5Laws
