@@ -7,7 +7,7 @@ ghost use Rattle.cipher.specs.Keys.{key-bytes};
 use crate::key::Key;
 
 // A cipher with its key set up, so that one set-up serves many blocks.
-pub trait Block: Sized {
+pub trait Block: Sized + Drop {
     // the make's meaning: its width, and the value of each key and block
     ghost make: { Make };
 

@@ -1,4 +1,5 @@
 // A key of 16 bytes, held as two numbers.
+ghost use mathlib.Core.List.{_++_};
 ghost use mathlib.Core.Path.{_≡_};
 ghost use Rattle.cipher.specs.Keys.{key-bytes, key-of};
 
@@ -10,15 +11,21 @@ pub struct Key {
 }
 
 impl Key {
+    pub fn from_halves(high: [u8; 8], low: [u8; 8]) -> Key
+        ensures { λ r. ⌜ r ≡ key-of (high ++ low) ⌝ }
+    {
+        Key {
+            high: u64::from_be_bytes(high),
+            low: u64::from_be_bytes(low),
+        }
+    }
+
     pub fn from_bytes(bytes: [u8; 16]) -> Key
         ensures value { λ r. ⌜ r ≡ key-of bytes ⌝ }
         ensures back { λ r. ⌜ key-bytes r ≡ bytes ⌝ }
     {
         let [a, b, c, d, e, f, g, h, i, j, k, l, m, n, o, p] = bytes;
-        Key {
-            high: u64::from_be_bytes([a, b, c, d, e, f, g, h]),
-            low: u64::from_be_bytes([i, j, k, l, m, n, o, p]),
-        }
+        Key::from_halves([a, b, c, d, e, f, g, h], [i, j, k, l, m, n, o, p])
     }
 
     pub fn to_bytes(self) -> [u8; 16]

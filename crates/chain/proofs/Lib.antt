@@ -1,0 +1,3 @@
+pub mod TagLaws
+pub mod LengthBlock
+pub mod ChainLaws

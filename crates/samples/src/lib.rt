@@ -1,0 +1,27 @@
+// Known values of the definitions that every contract cites, computed by the checker.
+ghost use Rattle.samples.specs.Table.{Table};
+
+#[derive(Clone, Copy)]
+pub struct Samples {
+    // RC5, zero key and block.
+    pub rc5_of_zeros: [u8; 8],
+    // The adding block from here on. The tag of the empty message under the zero key.
+    pub tag_of_nothing: [u8; 8],
+    // The keys K_1 and K_0 of a chain whose last key, K_2, is zero.
+    pub key_one: [u8; 16],
+    pub key_nought: [u8; 16],
+    // The tag of interval 2's first packet, with no payload, in that chain.
+    pub tag_of_data: [u8; 8],
+}
+
+pub fn known_values() -> Samples
+    ensures { λ r. ⌜ Table r ⌝ }
+{
+    Samples {
+        rc5_of_zeros: [0x21, 0xa5, 0xdb, 0xee, 0x15, 0x4b, 0x8f, 0x6d],
+        tag_of_nothing: [1, 1, 1, 1, 1, 1, 1, 1],
+        key_one: [1, 2, 2, 2, 2, 2, 2, 2, 1, 1, 2, 2, 2, 2, 2, 2],
+        key_nought: [5, 6, 6, 6, 6, 6, 6, 6, 5, 5, 6, 6, 6, 6, 6, 6],
+        tag_of_data: [0x0b, 6, 4, 6, 6, 6, 6, 6],
+    }
+}
