@@ -61,7 +61,7 @@ fn absorbed<B: Block>(cipher: &B, last: [u8; 16], part: &[u8]) -> [u8; 16]
 }
 
 // The tag of a message that is not too long, under a key that is set up.
-pub fn mac<B: Block>(cipher: &B, message: &[u8]) -> [u8; 8]
+pub(crate) fn mac<B: Block>(cipher: &B, message: &[u8]) -> [u8; 8]
     requires { ⌜ length (now message) ≤ 4096 ⌝ }
     ensures { λ r. ⌜ r ≡ take 8 (chained-mac (make .width) (under (now (cipher .entry))) (now (message .entry))) ⌝ }
 {

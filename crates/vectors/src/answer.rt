@@ -90,7 +90,7 @@ fn read_answer<'a>(heap: Global, line: &'a str) -> Result<Answer<'a>, Trouble> {
 }
 
 // The answer to a line as it was read, which may not be text.
-pub fn answer_to<'a>(heap: Global, bytes: &'a [u8]) -> Result<Answer<'a>, AllocError> {
+pub(crate) fn answer_to<'a>(heap: Global, bytes: &'a [u8]) -> Result<Answer<'a>, AllocError> {
     match from_utf8(bytes) {
         Ok(line) => answered(heap, line.trim_end()),
         Err(_) => Ok(Answer::Unread(Fault::NotText, "")),

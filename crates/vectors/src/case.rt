@@ -112,7 +112,7 @@ fn is_task(name: &str) -> bool {
 }
 
 // Reads a case: `rc5 KEY BLOCK`, or a task with its cipher, key and last word.
-pub fn read(heap: Global, text: &str) -> Result<Case, Trouble> {
+pub(crate) fn read(heap: Global, text: &str) -> Result<Case, Trouble> {
     let mut words = text.split_whitespace();
     let Some(first) = words.next() else {
         return Err(Trouble::Line(Fault::NoTask));

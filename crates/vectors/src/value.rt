@@ -51,7 +51,7 @@ fn under<B: Block>(key: Key, task: &Task) -> Value {
     }
 }
 
-pub fn value_of(case: &Case) -> Value {
+pub(crate) fn value_of(case: &Case) -> Value {
     match case.make {
         Make::Rc5 => under::<Rc5Block>(case.key, &case.task),
         Make::Adding => under::<AddingBlock>(case.key, &case.task),
