@@ -5,10 +5,14 @@ import pathlib
 import random
 import sys
 
-from model import MAKES, derive, down, tag
+from model import LENGTHS, MAKES, derive, down, packet, tag
 
 HERE = pathlib.Path(__file__).resolve().parent.parent / 'crates' / 'vectors'
-TOO_LONG = 'refused 17 (the payload or the message is too long)'
+MEANING = {
+    'refused 1': 'the packet is of no kind that this call takes',
+    'refused 2': 'the packet has not the length of its kind',
+    'refused 17': 'the payload or the message is too long',
+}
 
 # key, block and result of the five examples in Rivest's paper
 RIVEST = [
@@ -20,7 +24,7 @@ RIVEST = [
 ]
 
 UNREAD = [
-    ('rc6 00 00', 'a case begins with rc5, adding, tag, derive or down'),
+    ('rc6 00 00', 'a case begins with rc5, adding, tag, derive, down or packet'),
     ('tag rc6 00000000000000000000000000000000 -', 'after tag, derive or down comes rc5 or adding'),
     ('rc5 00000000000000000000000000000000', 'the case has not as many words as its task takes'),
     ('rc5 00000000000000000000000000000000 0000000000000000 00', 'the case has not as many words as its task takes'),
@@ -28,11 +32,13 @@ UNREAD = [
     ('rc5 0000000000000000000000000000000g 0000000000000000', 'the key is not 32 hexadecimal digits'),
     ('rc5 00000000000000000000000000000000 00000000000000', 'the block is not 16 hexadecimal digits for rc5, 32 for adding'),
     ('adding 00000000000000000000000000000000 0000000000000000', 'the block is not 16 hexadecimal digits for rc5, 32 for adding'),
-    ('tag rc5 00000000000000000000000000000000 123', 'the message is neither pairs of hexadecimal digits nor -'),
+    ('tag rc5 00000000000000000000000000000000 123', 'the bytes are neither pairs of hexadecimal digits nor -'),
     ('derive rc5 00000000000000000000000000000000 0100', 'the purpose is not 2 hexadecimal digits'),
     ('down rc5 00000000000000000000000000000000 4294967296', 'the count is not a number from 0 to 4294967295'),
     ('down rc5 00000000000000000000000000000000 -1', 'the count is not a number from 0 to 4294967295'),
-    ('rc5 00000000000000000000000000000000 0000000000000000 = no', 'after = comes a value in hexadecimal digits, or refused and a number'),
+    ('packet 01 02', 'the case has not as many words as its task takes'),
+    ('packet 0', 'the bytes are neither pairs of hexadecimal digits nor -'),
+    ('rc5 00000000000000000000000000000000 0000000000000000 =', 'after = comes a value'),
 ]
 
 
@@ -42,6 +48,8 @@ def digits(rng, count):
 
 def value(words):
     """the value of a case, by the model"""
+    if words[0] == 'packet':
+        return packet(b'' if words[1] == '-' else bytes.fromhex(words[1]))
     if words[0] in MAKES:
         make, key, block = MAKES[words[0]], bytes.fromhex(words[1]), bytes.fromhex(words[2])
         return make(key).encrypt(block).hex()
@@ -54,10 +62,20 @@ def value(words):
     return down(make, key, int(last)).hex()
 
 
+def random_packet(rng):
+    """any bytes up to a length of 80, of a kind that there is more often than not"""
+    data = bytearray(rng.randrange(256) for _ in range(rng.randrange(81)))
+    if data and rng.random() < 0.9:
+        data[0] = rng.choice(sorted(LENGTHS))
+    return bytes(data)
+
+
 def random_case(rng, longest=40):
     name = rng.choice(sorted(MAKES))
     key = digits(rng, 16)
-    task = rng.choice(['encrypt', 'tag', 'derive', 'down'])
+    task = rng.choice(['encrypt', 'tag', 'derive', 'down', 'packet'])
+    if task == 'packet':
+        return ['packet', random_packet(rng).hex() or '-']
     if task == 'encrypt':
         return [name, key, digits(rng, MAKES[name].width)]
     if task == 'tag':
@@ -81,7 +99,7 @@ class Sheet:
     def case(self, words, expected=None):
         """a case with the value that is expected of it, or with none"""
         found = value(words)
-        shown = TOO_LONG if found == 'refused 17' else found
+        shown = f'{found} ({MEANING[found]})' if found in MEANING else found
         case = ' '.join(words)
         kind = 'shown' if expected is None else 'ok' if expected.lower() == found else 'wrong'
         self.counts[kind] += 1
@@ -125,6 +143,18 @@ def gate():
         for count in (0, 1, 2, 8, 100):
             words = ['down', name, digits(rng, 16), str(count)]
             sheet.case(words, value(words))
+    sheet.passed('# packets: each kind at its shortest and longest, a byte less and more, and other kinds')
+    sheet.case(['packet', '030002000b06040606060606'], 'data, interval 2, number 0, payload -, tag 0b06040606060606')
+    for kind, limits in sorted(LENGTHS.items()):
+        for length in sorted({limits[0] - 1, *limits, limits[1] + 1}):
+            words = ['packet', bytes([kind]).hex() + digits(rng, length - 1)]
+            sheet.case(words, value(words))
+    for start in ('030000', '03ffff', '040000', '04ffff'):
+        words = ['packet', start + digits(rng, 16)]
+        sheet.case(words, value(words))
+    sheet.case(['packet', '02' + 'ff' * 47], packet(b'\x02' + b'\xff' * 47))
+    for data in ('-', '00', '05', 'ff', '01', '02', '03', '04', '00' * 9, '05' * 19):
+        sheet.case(['packet', data], value(['packet', data]))
     sheet.passed('# a value in capital letters, one that is wrong, and cases that are only shown')
     sheet.case(['rc5', zero, '00' * 8], '21A5DBEE154B8F6D')
     sheet.case(['rc5', zero, '00' * 8], '21a5dbee154b8f6e')

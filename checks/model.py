@@ -1,4 +1,4 @@
-"""An independent model of the ciphers, tags and chains, written from the published papers and docs/PROTOCOL.md.
+"""An independent model of the ciphers, tags, chains and packets, written from the published papers and docs/PROTOCOL.md.
 
 It shares no code with the crates: what it computes is held against what they compute."""
 
@@ -69,3 +69,28 @@ def down(make, key, steps):
     for _ in range(steps):
         key = derive(make, key, 1)
     return key
+
+
+LENGTHS = {1: (9, 9), 2: (48, 48), 3: (12, 76), 4: (19, 19)}
+
+
+def packet(data):
+    """a packet's kind and fields in words, or its refusal"""
+    if not data or data[0] not in LENGTHS:
+        return 'refused 1'
+    low, high = LENGTHS[data[0]]
+    if not low <= len(data) <= high:
+        return 'refused 2'
+
+    def number(at, size):
+        return int.from_bytes(data[at:at + size], 'big')
+
+    if data[0] == 1:
+        return f'request, nonce {data[1:].hex()}'
+    if data[0] == 2:
+        return (f'answer, time {number(1, 8)}, key {data[9:25].hex()}, interval {number(25, 2)}, '
+                f'start {number(27, 8)}, duration {number(35, 4)}, delay {data[39]}, tag {data[40:].hex()}')
+    if data[0] == 3:
+        return (f'data, interval {number(1, 2)}, number {data[3]}, '
+                f'payload {data[4:-8].hex() or "-"}, tag {data[-8:].hex()}')
+    return f'key, interval {number(1, 2)}, key {data[3:].hex()}'

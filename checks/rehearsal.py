@@ -13,28 +13,28 @@ COUNT, INTERVAL = 8, 3
 def text():
     last = bytes.fromhex('00112233445566778899aabbccddeeff')
     keys = [down(Rc5, last, COUNT - m) for m in range(COUNT + 1)]
-    order = bytes([3]) + INTERVAL.to_bytes(2, 'big') + bytes([0]) + b'racking +2'
-    found = tag(Rc5, derive(Rc5, keys[INTERVAL], 2), order)
-    changed = order[:-1] + b'3'
+    covered = bytes([3]) + INTERVAL.to_bytes(2, 'big') + bytes([0]) + b'racking +2'
+    order = covered + tag(Rc5, derive(Rc5, keys[INTERVAL], 2), covered)
+    changed = order[:13] + b'3' + order[14:]
     wrong = keys[INTERVAL][:-1] + bytes([keys[INTERVAL][-1] ^ 1])
     lines = [f'The base makes a chain of {COUNT} RC5 keys from the last one down.']
     lines += [f'  K_{m} {keys[m].hex()}' for m in range(COUNT, 0, -1)]
     lines += [f'  K_0 {keys[0].hex()} is the commitment that carriages know']
     lines += [f'The base orders "racking +2" in interval {INTERVAL}, and the carriage holds it.']
-    lines += [f'  order {order.hex()}', f'  tag   {found.hex()}']
+    lines += [f'  order {order.hex()}']
 
-    def judged(key, sent):
-        held = [f'  order {sent.hex()}', f'  tag   {found.hex()}', f'  key   {key.hex()}']
+    def judged(key, held):
+        shown = [f'  order {held.hex()}', f'  key   {key.hex()}']
         if down(Rc5, key, INTERVAL) != keys[0]:
-            return held + [f'  {INTERVAL} steps down from the key do not end on K_0: turned down']
-        if tag(Rc5, derive(Rc5, key, 2), sent) != found:
-            return held + [f'  {INTERVAL} steps down from the key end on K_0, but the tag is wrong: turned down']
-        return held + [f'  {INTERVAL} steps down from the key end on K_0, and the tag is right: accepted']
+            return shown + [f'  {INTERVAL} steps down from the key do not end on K_0: turned down']
+        if tag(Rc5, derive(Rc5, key, 2), held[:-8]) != held[-8:]:
+            return shown + [f'  {INTERVAL} steps down from the key end on K_0, but the tag is wrong: turned down']
+        return shown + [f'  {INTERVAL} steps down from the key end on K_0, and the tag is right: accepted']
 
     lines += [f'The base discloses K_{INTERVAL}, and the carriage looks at the order again.']
     lines += judged(keys[INTERVAL], order)
-    lines += ['The same with one byte of the order changed.'] + judged(keys[INTERVAL], changed)
     lines += ['The same with another key.'] + judged(wrong, order)
+    lines += ['The same with one byte of the order changed, +3 for +2.'] + judged(keys[INTERVAL], changed)
     return '\n'.join(lines) + '\n'
 
 

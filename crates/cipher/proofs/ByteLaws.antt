@@ -42,7 +42,7 @@ unfolding to-le
 length-to-le zero x = refl
 length-to-le (suc n) x = ap suc (length-to-le n (x / 256))
 
-all-reverse : (bs : List ℕ) → All Byte bs → All Byte (reverse bs)
+pub all-reverse : (bs : List ℕ) → All Byte bs → All Byte (reverse bs)
 all-reverse [] h = tt
 all-reverse (b ∷ bs) h =
     subst (All Byte) (sym (reverse-append (b ∷ []) bs)) (all-append Byte (reverse bs) (b ∷ []) (all-reverse bs (h .1)) (h .0, tt))

@@ -14,10 +14,12 @@ use cipher::KeyPartialEq;
 use cipher::Rc5Block;
 use hex::Hex;
 use hex::HexDisplay;
+use packet::Data;
+use packet::Packet;
+use packet::read_data;
+use packet::write;
 use refusal::Refusal;
 use refusal::RefusalDisplay;
-use std::alloc::AllocError;
-use std::alloc::Global;
 use std::error::AnyError;
 
 // The chain has 8 keys; the last is chosen, and all others follow from it.
@@ -42,25 +44,32 @@ fn chain_key(interval: u16) -> Key {
     down::<Rc5Block>(LAST, COUNT.saturating_sub(u32::from(interval)))
 }
 
-// The bytes of an order before its tag: kind, interval, running number and payload.
-fn order_bytes(
-    heap: Global,
-    interval: u16,
-    number: u8,
-    payload: &[u8],
-) -> Result<Vec<u8>, AllocError> {
-    let [high, low] = interval.to_be_bytes();
-    let mut bytes = Vec::new(heap);
-    bytes.extend_from_slice(&[3, high, low, number])?;
-    bytes.extend_from_slice(payload)?;
-    Ok(bytes)
+// The tag of an order, made under the key of its interval over the bytes before the tag.
+fn order_tag(key: Key, covered: &[u8]) -> Result<[u8; 8], Refusal>
+    ensures { λ r. ⌜ r ≡ tagged rc5-make (interval-tag-key rc5-make key) (now (covered .entry)) ⌝ }
+{
+    tag::<Rc5Block>(interval_tag_key::<Rc5Block>(key), covered)
 }
 
-// The tag of an order, made under the key of its interval.
-fn order_tag(key: Key, order: &[u8]) -> Result<[u8; 8], Refusal>
-    ensures { λ r. ⌜ r ≡ tagged rc5-make (interval-tag-key rc5-make key) (now (order .entry)) ⌝ }
-{
-    tag::<Rc5Block>(interval_tag_key::<Rc5Block>(key), order)
+// Writes an order with its tag, and answers its length.
+fn send(key: Key, payload: &[u8], out: &mut [u8]) -> Result<usize, Refusal> {
+    let none = [0; 8];
+    let draft = Data {
+        interval: INTERVAL,
+        number: 0,
+        payload,
+        tag: &none,
+    };
+    let mut covered = [0; 68];
+    let length = draft.covered(&mut covered)?;
+    let tag = order_tag(key, &covered[0..length])?;
+    let order = Data {
+        interval: INTERVAL,
+        number: 0,
+        payload,
+        tag: &tag,
+    };
+    write(&Packet::Data(order), out)
 }
 
 // What a carriage that knows the commitment makes of an order once a key of its interval is disclosed.
@@ -101,70 +110,88 @@ fn show_chain(rt: &LibcRuntime) -> Result<(), AnyError> {
     Ok(())
 }
 
-// Prints what the carriage makes of an order and a key, and why.
-fn show_verdict(
-    rt: &LibcRuntime,
-    disclosed: Key,
-    order: &[u8],
-    found: [u8; 8],
-) -> Result<(), AnyError> {
-    println!(rt, "  order {}", Hex(order))?;
-    println!(rt, "  tag   {}", Hex(&found))?;
-    println!(rt, "  key   {}", Hex(&disclosed.to_bytes()))?;
-    if order.len() > 4096 {
-        return Err("the order is longer than a message may be".into());
+// What the carriage makes of the bytes that it held and of a key that was disclosed.
+fn look_at(disclosed: Key, held: &[u8]) -> Result<Verdict, Refusal> {
+    let order = read_data(held)?;
+    let mut covered = [0; 68];
+    let length = order.covered(&mut covered)?;
+    if length > 68 {
+        return Err(Refusal::TooLong);
     }
-    match judged(chain_key(0), INTERVAL, disclosed, order, found) {
-        Verdict::Accepted => println!(
+    let tag = order.tag;
+    Ok(judged(
+        chain_key(0),
+        order.interval,
+        disclosed,
+        &covered[0..length],
+        *tag,
+    ))
+}
+
+// Prints what the carriage makes of an order and a key, and why.
+fn show_verdict(rt: &LibcRuntime, disclosed: Key, held: &[u8]) -> Result<(), AnyError> {
+    println!(rt, "  order {}", Hex(held))?;
+    println!(rt, "  key   {}", Hex(&disclosed.to_bytes()))?;
+    match look_at(disclosed, held) {
+        Ok(Verdict::Accepted) => println!(
             rt,
             "  {INTERVAL} steps down from the key end on K_0, and the tag is right: accepted"
         )?,
-        Verdict::WrongTag => println!(
+        Ok(Verdict::WrongTag) => println!(
             rt,
             "  {INTERVAL} steps down from the key end on K_0, but the tag is wrong: turned down"
         )?,
-        Verdict::WrongKey => println!(
+        Ok(Verdict::WrongKey) => println!(
             rt,
             "  {INTERVAL} steps down from the key do not end on K_0: turned down"
         )?,
+        Err(refusal) => show_refusal(rt, refusal)?,
     }
     Ok(())
 }
 
-fn run(rt: &LibcRuntime) -> Result<(), AnyError> {
-    let heap = rt.alloc();
-    show_chain(rt)?;
-    let key = chain_key(INTERVAL);
-    let order = order_bytes(heap, INTERVAL, 0, b"racking +2")?;
-    let changed = order_bytes(heap, INTERVAL, 0, b"racking +3")?;
-    let found = match order_tag(key, &order) {
-        Ok(found) => found,
-        Err(refusal) => {
-            let number = refusal.number();
-            println!(rt, "refused {number}: {refusal}")?;
-            return Err("the order got no tag".into());
-        }
-    };
+fn show_refusal(rt: &LibcRuntime, refusal: Refusal) -> Result<(), AnyError> {
+    let number = refusal.number();
+    println!(rt, "  refused {number}: {refusal}")?;
+    Ok(())
+}
+
+fn rehearse(rt: &LibcRuntime, key: Key, order: &mut [u8]) -> Result<(), AnyError> {
     println!(
         rt,
         "The base orders \"racking +2\" in interval {INTERVAL}, and the carriage holds it."
     )?;
-    println!(rt, "  order {}", Hex(&order))?;
-    println!(rt, "  tag   {}", Hex(&found))?;
+    println!(rt, "  order {}", Hex(order))?;
     println!(
         rt,
         "The base discloses K_{INTERVAL}, and the carriage looks at the order again."
     )?;
-    show_verdict(rt, key, &order, found)?;
-    println!(rt, "The same with one byte of the order changed.")?;
-    show_verdict(rt, key, &changed, found)?;
+    show_verdict(rt, key, order)?;
     println!(rt, "The same with another key.")?;
     let wrong = Key {
         high: key.high,
         low: key.low ^ 1,
     };
-    show_verdict(rt, wrong, &order, found)?;
-    Ok(())
+    show_verdict(rt, wrong, order)?;
+    println!(
+        rt,
+        "The same with one byte of the order changed, +3 for +2."
+    )?;
+    if order.len() > 13 {
+        order[13] = b'3';
+    }
+    show_verdict(rt, key, order)
+}
+
+fn run(rt: &LibcRuntime) -> Result<(), AnyError> {
+    show_chain(rt)?;
+    let key = chain_key(INTERVAL);
+    let mut sent = [0; 76];
+    match send(key, b"racking +2", &mut sent) {
+        Ok(length) if length <= 76 => rehearse(rt, key, &mut sent[0..length]),
+        Ok(_) => Err("the order is longer than a packet may be".into()),
+        Err(refusal) => show_refusal(rt, refusal),
+    }
 }
 
 fn main(rt: LibcRuntime) -> Result<(), AnyError> {

@@ -8,10 +8,18 @@ use Rattle.cipher.specs.Keys.{key-bytes}
 use Rattle.cipher.specs.Makes.{rc5-make, adding-make}
 use Rattle.chain.specs.Tag.{tag}
 use Rattle.chain.specs.Chain.{down, interval-tag-key}
+use Rattle.packet.specs.Kinds.{Data, a-data}
+use Rattle.packet.specs.Layouts.{data-covered, packet-bytes}
+use Rattle.packet.specs.Reading.{read-packet}
+use Rattle.std.specs.declared.result.Result.the-variants.{Ok}
 use Rattle.samples.specs.declared.Samples.{Samples}
 
 abbrev pub zero-key : Key
 zero-key = record { high = 0; low = 0 }
+
+-- the first packet of interval 2, with no payload
+abbrev pub first-data : List ℕ → Data
+first-data tag = record { interval = 2; number = 0; payload = []; tag = tag }
 
 -- The chain of the adding block has two keys, and the last of them is zero.
 pub record Table (s : Samples) : Type 0 where
@@ -19,5 +27,7 @@ pub record Table (s : Samples) : Type 0 where
   pub tag-of-nothing : s .«tag_of_nothing» ≡ tag adding-make zero-key []
   pub key-one : s .«key_one» ≡ key-bytes (down adding-make zero-key 1)
   pub key-nought : s .«key_nought» ≡ key-bytes (down adding-make zero-key 2)
-  -- interval 2, number 0, no payload
-  pub tag-of-data : s .«tag_of_data» ≡ tag adding-make (interval-tag-key adding-make zero-key) (3 ∷ 0 ∷ 2 ∷ 0 ∷ [])
+  pub tag-of-data : s .«tag_of_data» ≡ tag adding-make (interval-tag-key adding-make zero-key) (data-covered (first-data []))
+  -- that packet, as written bytes and as read fields
+  pub data-written : s .«data_packet» ≡ packet-bytes (a-data (first-data (s .«tag_of_data»)))
+  pub data-read : read-packet (s .«data_packet») ≡ Ok (a-data (first-data (s .«tag_of_data»)))

@@ -10,8 +10,9 @@ pub struct Samples {
     // The keys K_1 and K_0 of a chain whose last key, K_2, is zero.
     pub key_one: [u8; 16],
     pub key_nought: [u8; 16],
-    // The tag of interval 2's first packet, with no payload, in that chain.
+    // Interval 2's first packet in that chain, with no payload: its tag, and all its bytes.
     pub tag_of_data: [u8; 8],
+    pub data_packet: [u8; 12],
 }
 
 pub fn known_values() -> Samples
@@ -23,5 +24,6 @@ pub fn known_values() -> Samples
         key_one: [1, 2, 2, 2, 2, 2, 2, 2, 1, 1, 2, 2, 2, 2, 2, 2],
         key_nought: [5, 6, 6, 6, 6, 6, 6, 6, 5, 5, 6, 6, 6, 6, 6, 6],
         tag_of_data: [0x0b, 6, 4, 6, 6, 6, 6, 6],
+        data_packet: [3, 0, 2, 0, 0x0b, 6, 4, 6, 6, 6, 6, 6],
     }
 }

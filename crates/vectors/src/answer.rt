@@ -7,7 +7,6 @@ use crate::fault::TroubleFromAlloc;
 use crate::value::Value;
 use crate::value::ValueDisplay;
 use crate::value::value_of;
-use hex::parse;
 use refusal::RefusalDisplay;
 use std::alloc::AllocError;
 use std::alloc::Global;
@@ -21,7 +20,7 @@ pub enum Verdict {
     Shown,
 }
 
-#[derive(Clone, Copy)]
+#[derive(Drop)]
 pub enum Answer<'a> {
     Passed(&'a str),
     Read(&'a str, Value, Verdict),
@@ -49,20 +48,11 @@ pub impl fmt::Display for Answer<'_> as AnswerDisplay {
     }
 }
 
-// Whether a text can be a value: bytes in hexadecimal, or `refused` and a number.
-fn is_value(heap: Global, text: &str) -> Result<bool, AllocError> {
-    if let Some(number) = text.strip_prefix("refused ") {
-        return Ok(number.parse::<u8>().is_ok());
-    }
-    let bytes = parse(heap, text)?;
-    Ok(!text.is_empty() && bytes.is_some())
-}
-
-fn judged(heap: Global, value: Value, expected: Option<&str>) -> Result<Verdict, Trouble> {
+fn judged(heap: Global, value: &Value, expected: Option<&str>) -> Result<Verdict, Trouble> {
     let Some(text) = expected else {
         return Ok(Verdict::Shown);
     };
-    if !is_value(heap, text)? {
+    if text.is_empty() {
         return Err(Trouble::Line(Fault::BadValue));
     }
     let found = format!(heap, "{value}")?;
@@ -84,8 +74,8 @@ fn parts(line: &str) -> (&str, Option<&str>) {
 fn read_answer<'a>(heap: Global, line: &'a str) -> Result<Answer<'a>, Trouble> {
     let (text, expected) = parts(line);
     let case = read(heap, text)?;
-    let value = value_of(&case);
-    let verdict = judged(heap, value, expected)?;
+    let value = value_of(heap, &case)?;
+    let verdict = judged(heap, &value, expected)?;
     Ok(Answer::Read(text, value, verdict))
 }
 

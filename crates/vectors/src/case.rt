@@ -22,10 +22,9 @@ pub enum Task {
 }
 
 #[derive(Drop)]
-pub struct Case {
-    pub make: Make,
-    pub key: Key,
-    pub task: Task,
+pub enum Case {
+    Cipher(Make, Key, Task),
+    Packet(Vec<u8>),
 }
 
 fn make_named(word: &str) -> Option<Make> {
@@ -73,18 +72,14 @@ fn message(heap: Global, word: &str) -> Result<Vec<u8>, Trouble> {
     }
     match parse(heap, word)? {
         Some(read) => Ok(read),
-        None => Err(Trouble::Line(Fault::BadMessage)),
+        None => Err(Trouble::Line(Fault::BadBytes)),
     }
 }
 
 fn encrypt(heap: Global, make: Make, key_word: &str, word: &str) -> Result<Case, Trouble> {
     let key = key(heap, key_word)?;
     match bytes(heap, word, width(make))? {
-        Some(block) => Ok(Case {
-            make,
-            key,
-            task: Task::Encrypt(block),
-        }),
+        Some(block) => Ok(Case::Cipher(make, key, Task::Encrypt(block))),
         None => Err(Trouble::Line(Fault::BadBlock)),
     }
 }
@@ -111,30 +106,40 @@ fn is_task(name: &str) -> bool {
     }
 }
 
-// Reads a case: `rc5 KEY BLOCK`, or a task with its cipher, key and last word.
+// The rest of a case whose first word names a task: a cipher, a key and one word more.
+fn read_cipher_case(heap: Global, name: &str, words: [Option<&str>; 4]) -> Result<Case, Trouble> {
+    let [Some(cipher), Some(key_word), Some(word), None] = words else {
+        return Err(Trouble::Line(Fault::Words));
+    };
+    let Some(make) = make_named(cipher) else {
+        return Err(Trouble::Line(Fault::NoCipher));
+    };
+    let key = key(heap, key_word)?;
+    let task = read_task(heap, name, word)?;
+    Ok(Case::Cipher(make, key, task))
+}
+
+// Reads a case: `rc5 KEY BLOCK`, `packet BYTES`, or a task with its cipher, key and last word.
 pub(crate) fn read(heap: Global, text: &str) -> Result<Case, Trouble> {
     let mut words = text.split_whitespace();
     let Some(first) = words.next() else {
         return Err(Trouble::Line(Fault::NoTask));
     };
+    let rest = [words.next(), words.next(), words.next(), words.next()];
     if let Some(make) = make_named(first) {
-        return match (words.next(), words.next(), words.next()) {
-            (Some(key_word), Some(word), None) => encrypt(heap, make, key_word, word),
+        return match rest {
+            [Some(key_word), Some(word), None, _] => encrypt(heap, make, key_word, word),
             _ => Err(Trouble::Line(Fault::Words)),
         };
     }
-    if !is_task(first) {
-        return Err(Trouble::Line(Fault::NoTask));
+    if first == "packet" {
+        return match rest {
+            [Some(word), None, _, _] => Ok(Case::Packet(message(heap, word)?)),
+            _ => Err(Trouble::Line(Fault::Words)),
+        };
     }
-    match (words.next(), words.next(), words.next(), words.next()) {
-        (Some(cipher), Some(key_word), Some(word), None) => {
-            let Some(make) = make_named(cipher) else {
-                return Err(Trouble::Line(Fault::NoCipher));
-            };
-            let key = key(heap, key_word)?;
-            let task = read_task(heap, first, word)?;
-            Ok(Case { make, key, task })
-        }
-        _ => Err(Trouble::Line(Fault::Words)),
+    if is_task(first) {
+        return read_cipher_case(heap, first, rest);
     }
+    Err(Trouble::Line(Fault::NoTask))
 }

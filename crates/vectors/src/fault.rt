@@ -10,7 +10,7 @@ pub enum Fault {
     Words,
     BadKey,
     BadBlock,
-    BadMessage,
+    BadBytes,
     BadPurpose,
     BadCount,
     BadValue,
@@ -20,21 +20,21 @@ pub impl fmt::Display for Fault as FaultDisplay {
     fn fmt<W: fmt::Write>(&self, f: &mut fmt::Formatter<W>) -> fmt::Result {
         match self {
             Fault::NotText => f.write_str("the line is not text"),
-            Fault::NoTask => f.write_str("a case begins with rc5, adding, tag, derive or down"),
+            Fault::NoTask => f.write_str(
+                "a case begins with rc5, adding, tag, derive, down or packet",
+            ),
             Fault::NoCipher => f.write_str("after tag, derive or down comes rc5 or adding"),
             Fault::Words => f.write_str("the case has not as many words as its task takes"),
             Fault::BadKey => f.write_str("the key is not 32 hexadecimal digits"),
             Fault::BadBlock => f.write_str(
                 "the block is not 16 hexadecimal digits for rc5, 32 for adding",
             ),
-            Fault::BadMessage => f.write_str(
-                "the message is neither pairs of hexadecimal digits nor -",
+            Fault::BadBytes => f.write_str(
+                "the bytes are neither pairs of hexadecimal digits nor -",
             ),
             Fault::BadPurpose => f.write_str("the purpose is not 2 hexadecimal digits"),
             Fault::BadCount => f.write_str("the count is not a number from 0 to 4294967295"),
-            Fault::BadValue => f.write_str(
-                "after = comes a value in hexadecimal digits, or refused and a number",
-            ),
+            Fault::BadValue => f.write_str("after = comes a value"),
         }
     }
 }

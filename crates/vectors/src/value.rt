@@ -1,36 +1,37 @@
-// The value of a case, computed by the proved library.
+// The value of a case, computed by the proved libraries.
 use crate::case::Case;
 use crate::case::Make;
 use crate::case::Task;
 use chain::derive;
 use chain::down;
 use chain::tag;
-use cipher::Adding;
 use cipher::AddingBlock;
 use cipher::Block;
 use cipher::Key;
-use cipher::Rc5;
 use cipher::Rc5Block;
 use hex::Hex;
 use hex::HexDisplay;
+use packet::Answer;
+use packet::Data;
+use packet::Disclosure;
+use packet::Packet;
+use packet::Request;
+use packet::read;
 use refusal::Refusal;
+use std::alloc::AllocError;
+use std::alloc::Global;
 use std::fmt;
 
-#[derive(Clone, Copy)]
+#[derive(Drop)]
 pub enum Value {
-    Tag([u8; 8]),
-    Block([u8; 16], usize),
-    Key([u8; 16]),
+    Text(String),
     Refused(Refusal),
 }
 
 pub impl fmt::Display for Value as ValueDisplay {
     fn fmt<W: fmt::Write>(&self, f: &mut fmt::Formatter<W>) -> fmt::Result {
         match self {
-            Value::Tag(bytes) => write!(f, "{}", Hex(bytes)),
-            Value::Key(bytes) => write!(f, "{}", Hex(bytes)),
-            Value::Block(bytes, 8) => write!(f, "{}", Hex(&bytes[0..8])),
-            Value::Block(bytes, _) => write!(f, "{}", Hex(bytes)),
+            Value::Text(text) => write!(f, "{text}"),
             Value::Refused(refusal) => {
                 let number = refusal.number();
                 write!(f, "refused {number}")
@@ -39,21 +40,100 @@ pub impl fmt::Display for Value as ValueDisplay {
     }
 }
 
-fn under<B: Block>(key: Key, task: &Task) -> Value {
-    match task {
-        Task::Encrypt(block) => Value::Block(B::keyed(key).encrypt(*block), B::width()),
-        Task::Tag(message) => match tag::<B>(key, message) {
-            Ok(bytes) => Value::Tag(bytes),
-            Err(refusal) => Value::Refused(refusal),
-        },
-        Task::Derive(purpose) => Value::Key(derive::<B>(key, *purpose).to_bytes()),
-        Task::Down(count) => Value::Key(down::<B>(key, *count).to_bytes()),
+// Bytes as a line may give them: `-` where there are none.
+#[derive(Clone, Copy)]
+struct Given<'a>(&'a [u8]);
+
+impl fmt::Display for Given<'_> as GivenDisplay {
+    fn fmt<W: fmt::Write>(&self, f: &mut fmt::Formatter<W>) -> fmt::Result {
+        if self.0.is_empty() {
+            return f.write_str("-");
+        }
+        write!(f, "{}", Hex(self.0))
     }
 }
 
-pub(crate) fn value_of(case: &Case) -> Value {
-    match case.make {
-        Make::Rc5 => under::<Rc5Block>(case.key, &case.task),
-        Make::Adding => under::<AddingBlock>(case.key, &case.task),
+fn request_text(heap: Global, p: Request) -> Result<String, AllocError> {
+    let nonce = p.nonce;
+    format!(heap, "request, nonce {}", Hex(nonce))
+}
+
+fn answer_text(heap: Global, p: Answer) -> Result<String, AllocError> {
+    let Answer {
+        time,
+        key,
+        interval,
+        start,
+        duration,
+        delay,
+        tag,
+    } = p;
+    let key = Hex(key);
+    let tag = Hex(tag);
+    format!(
+        heap,
+        "answer, time {time}, key {key}, interval {interval}, start {start}, duration {duration}, delay {delay}, tag {tag}"
+    )
+}
+
+fn data_text(heap: Global, p: Data) -> Result<String, AllocError> {
+    let Data {
+        interval,
+        number,
+        payload,
+        tag,
+    } = p;
+    let payload = Given(payload);
+    let tag = Hex(tag);
+    format!(
+        heap,
+        "data, interval {interval}, number {number}, payload {payload}, tag {tag}"
+    )
+}
+
+fn key_text(heap: Global, p: Disclosure) -> Result<String, AllocError> {
+    let Disclosure { interval, key } = p;
+    let key = Hex(key);
+    format!(heap, "key, interval {interval}, key {key}")
+}
+
+// A packet's kind and fields in words.
+fn packet_text(heap: Global, packet: Packet) -> Result<String, AllocError> {
+    match packet {
+        Packet::Request(p) => request_text(heap, p),
+        Packet::Answer(p) => answer_text(heap, p),
+        Packet::Data(p) => data_text(heap, p),
+        Packet::Key(p) => key_text(heap, p),
+    }
+}
+
+fn text(heap: Global, bytes: &[u8]) -> Result<Value, AllocError> {
+    Ok(Value::Text(format!(heap, "{}", Hex(bytes))?))
+}
+
+fn under<B: Block>(heap: Global, key: Key, task: &Task) -> Result<Value, AllocError> {
+    match task {
+        Task::Encrypt(block) => text(heap, &B::keyed(key).encrypt(*block)[0..B::width()]),
+        Task::Tag(message) => match tag::<B>(key, message) {
+            Ok(bytes) => text(heap, &bytes),
+            Err(refusal) => Ok(Value::Refused(refusal)),
+        },
+        Task::Derive(purpose) => text(heap, &derive::<B>(key, *purpose).to_bytes()),
+        Task::Down(count) => text(heap, &down::<B>(key, *count).to_bytes()),
+    }
+}
+
+fn packet_value(heap: Global, bytes: &[u8]) -> Result<Value, AllocError> {
+    match read(bytes) {
+        Ok(packet) => Ok(Value::Text(packet_text(heap, packet)?)),
+        Err(refusal) => Ok(Value::Refused(refusal)),
+    }
+}
+
+pub(crate) fn value_of(heap: Global, case: &Case) -> Result<Value, AllocError> {
+    match case {
+        Case::Cipher(Make::Rc5, key, task) => under::<Rc5Block>(heap, *key, task),
+        Case::Cipher(Make::Adding, key, task) => under::<AddingBlock>(heap, *key, task),
+        Case::Packet(bytes) => packet_value(heap, bytes),
     }
 }
