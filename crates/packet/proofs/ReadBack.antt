@@ -1,9 +1,9 @@
 -- What was written reads back: the bytes of a packet whose fields have their widths are read as that packet.
 use mathlib.Core.Path.{_≡_, refl, ap, _∙_}
 use mathlib.Core.List.{List, [], _∷_, _++_}
-use Prim.Native.Nat.{ℕ, _+_, _-_, _^_, _≤_, _<_}
+use Prim.Native.Nat.{ℕ, _+_, _-_, _^_, _<_}
 use native.Mathlib.Omega.{arith}
-use lib.ListN.{length, getD, take}
+use lib.ListN.{length, take}
 use Rattle.std.proofs.shelf.Lists.{append-assoc, take-at, drop-at, take-all, getD-at}
 use Rattle.std.specs.declared.result.Result.the-variants.{Ok}
 use Rattle.cipher.specs.Bytes.{to-be, from-be}

@@ -1,6 +1,5 @@
 -- What was read is what writing gives: the bytes of a packet that was read are those it was read from.
-use mathlib.Core.Path.{_≡_, refl, sym, ap, subst, _∙_}
-use mathlib.Core.Bool.{Bool, true}
+use mathlib.Core.Path.{_≡_, refl, sym, ap, _∙_}
 use mathlib.Core.List.{List, [], _∷_, _++_}
 use Prim.Native.Nat.{ℕ, _+_, _-_, _^_, _≤_, _<_}
 use native.Mathlib.Omega.{arith}
@@ -9,17 +8,14 @@ use Rattle.std.specs.shelf.Lists.{All}
 use Rattle.std.specs.Vec.{made}
 use Rattle.std.proofs.shelf.Lists.{length-take-le, length-drop, take-append-drop, take-take, drop-take, take-all, take-more, getD-drop}
 use Rattle.std.proofs.shelf.Elements.{all-take, all-drop}
-use Rattle.std.proofs.shelf.Tests.{and-parts, leb-true, le-leb, cond-true, cond-both}
+use Rattle.std.proofs.shelf.Tests.{and-parts, leb-true, cond-both}
 use Rattle.std.specs.declared.result.Result.{Result}
-use Rattle.std.specs.declared.result.Result.the-variants.{Ok, Err}
 use Rattle.refusal.specs.declared.Refusal.{Refusal}
-use Rattle.cipher.specs.Bytes.{to-be, from-be}
+use Rattle.cipher.specs.Bytes.{to-be}
 use Rattle.cipher.proofs.ByteLaws.{Byte, to-from-be}
 use Rattle.packet.specs.Kinds.{Packet, a-request, an-answer, a-data, a-key, Covered-fits, Fits}
-use Rattle.packet.specs.Layouts.{request-bytes, answer-covered, answer-bytes, data-covered, data-bytes, disclosure-bytes, packet-bytes, packet-length}
+use Rattle.packet.specs.Layouts.{request-bytes, answer-covered, answer-bytes, data-covered, data-bytes, disclosure-bytes, packet-bytes}
 use Rattle.packet.specs.Reading.{part, number-at, byte-at, told, request-of, answer-of, data-of, disclosure-of, of-length, request-long, answer-long, data-long, disclosure-long, read-packet}
-use Rattle.packet.specs.Writing.{filled, short-enough, write-packet, Writes}
-use Rattle.packet.proofs.LayoutLaws.{length-packet-bytes}
 use Rattle.packet.proofs.NumberLaws.{from-be-below}
 use Rattle.packet.proofs.ReadingLaws.{first-of-kind}
 

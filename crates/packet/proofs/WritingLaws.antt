@@ -1,11 +1,11 @@
 -- What writing answers of a packet whose fields have their widths.
 use mathlib.Core.Path.{_≡_, refl, sym, ap, subst, _∙_}
-use mathlib.Core.Bool.{Bool, true}
+use mathlib.Core.Bool.{true}
 use mathlib.Core.List.{List}
 use Prim.Native.Nat.{ℕ, _≤_}
 use native.Mathlib.Omega.{arith}
 use lib.Dec.{leb}
-use lib.ListN.{length, take, drop}
+use lib.ListN.{length, take}
 use Rattle.std.specs.shelf.Lists.{All}
 use Rattle.std.specs.Vec.{made}
 use Rattle.std.proofs.shelf.Lists.{take-at}

@@ -33,6 +33,7 @@ pub data Packet : Type 0 where
   a-data : Data → Packet
   a-key : Disclosure → Packet
 
+-- what the code's packets say
 abbrev pub request-said : kinds.Request.Request → Request
 request-said p = record { nonce = p .nonce .now }
 
@@ -53,7 +54,6 @@ data-said p = record { interval = p .interval; number = p .number; payload = p .
 abbrev pub disclosure-said : kinds.Disclosure.Disclosure → Disclosure
 disclosure-said p = record { interval = p .interval; key = p .key .now }
 
--- what a packet says, wherever its bytes lie
 abbrev pub said : kinds.Packet.Packet → Packet
 said (kinds.Packet.the-variants.Request p) = a-request (request-said p)
 said (kinds.Packet.the-variants.Answer p) = an-answer (answer-said p)

@@ -22,6 +22,7 @@ number-at from n bytes = from-be (part from n bytes)
 abbrev pub byte-at : ℕ → List ℕ → ℕ
 byte-at from bytes = getD bytes from 0
 
+-- the fields of each kind, at their offsets
 abbrev pub request-of : List ℕ → Request
 request-of bytes = record { nonce = part 1 8 bytes }
 
@@ -57,10 +58,11 @@ of-length low high fields bytes =
 abbrev pub is-kind : ℕ → List ℕ → Bool
 is-kind kind bytes = ltb 0 (length bytes) && eqb (getD bytes 0 0) kind
 
--- a packet of one kind
+-- a packet of one kind: the reader looks only at its length and fields
 abbrev pub of-kind : {P : Type 0} → ℕ → (List ℕ → Result P Refusal) → List ℕ → Result P Refusal
 of-kind kind reader bytes = cond (is-kind kind bytes) (reader bytes) (Err NotThisKind)
 
+-- each kind, where the first byte is known to be it
 abbrev pub request-long : List ℕ → Result Request Refusal
 request-long = of-length 9 9 request-of
 
@@ -73,6 +75,7 @@ data-long = of-length 12 76 data-of
 abbrev pub disclosure-long : List ℕ → Result Disclosure Refusal
 disclosure-long = of-length 19 19 disclosure-of
 
+-- the reader of each kind
 abbrev pub read-request : List ℕ → Result Request Refusal
 read-request = of-kind 1 request-long
 
@@ -85,7 +88,7 @@ read-data = of-kind 3 data-long
 abbrev pub read-key : List ℕ → Result Disclosure Refusal
 read-key = of-kind 4 disclosure-long
 
--- what was read, told by f
+-- a result, with f of what was read
 abbrev pub told : {P Q : Type 0} → (P → Q) → Result P Refusal → Result Q Refusal
 told f = mapped f (λ refusal. refusal)
 

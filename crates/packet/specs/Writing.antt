@@ -23,7 +23,7 @@ short-enough (an-answer p) = true
 short-enough (a-data p) = leb (length (p .payload)) 64
 short-enough (a-key p) = true
 
--- the answer, and the buffer after
+-- writing a packet: the answer, and the buffer after
 abbrev pub write-packet : Packet → List ℕ → Result ℕ Refusal × List ℕ
 write-packet p out =
     cond (short-enough p)
@@ -35,7 +35,7 @@ abbrev pub Writes : Packet → List ℕ → Type 0
 Writes p bytes =
     (out : List ℕ) → length bytes ≤ length out → write-packet p out ≡ (Ok (length bytes), filled bytes out)
 
--- the part of a data packet that its tag covers: its length, and a buffer of 68 bytes after
+-- the part of a data packet that its tag covers, into a buffer of 68 bytes: the answer, and the buffer after
 abbrev pub write-covered : Data → List ℕ → Result ℕ Refusal × List ℕ
 write-covered p out =
     cond (short-enough (a-data p)) (Ok (4 + length (p .payload)), filled (data-covered p) out) (Err TooLong, out)

@@ -1,7 +1,7 @@
-// Fields at their offsets: how they are read and written.
+// Fields at their offsets, read from bytes and put into them.
 ghost use mathlib.Core.Path.{_≡_};
 ghost use mathlib.Core.List.{_∷_, []};
-ghost use Prim.Native.Nat.{ℕ, _+_, _*_, _≤_, _<_};
+ghost use Prim.Native.Nat.{_+_, _*_, _≤_, _<_};
 ghost use lib.ListN.{length};
 ghost use Rattle.cipher.specs.Bytes.{to-be};
 ghost use Rattle.packet.specs.Reading.{part, number-at, byte-at};

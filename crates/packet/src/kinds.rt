@@ -1,5 +1,16 @@
 // What each kind of packet says. Byte strings are borrowed: from the bytes received, or from whoever writes.
 
+pub(crate) const REQUEST: u8 = 1;
+
+pub(crate) const ANSWER: u8 = 2;
+
+pub(crate) const DATA: u8 = 3;
+
+pub(crate) const KEY: u8 = 4;
+
+// The most bytes that a payload can have.
+pub const MAX_PAYLOAD: usize = 64;
+
 // A node asks to join.
 #[derive(Clone, Copy)]
 pub struct Request<'a> {

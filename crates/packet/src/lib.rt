@@ -7,6 +7,7 @@ mod writing;
 pub use kinds::Answer;
 pub use kinds::Data;
 pub use kinds::Disclosure;
+pub use kinds::MAX_PAYLOAD;
 pub use kinds::Packet;
 pub use kinds::Request;
 pub use reading::read;

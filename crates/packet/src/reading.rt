@@ -1,30 +1,24 @@
 // Reading asks for the kind, then for the length, and takes any fields.
 ghost use mathlib.Core.Path.{_≡_};
-ghost use Prim.Native.Nat.{_≤_};
-ghost use lib.ListN.{length};
 ghost use Rattle.std.specs.Vec.{made};
 ghost use Rattle.packet.specs.Kinds.{request-said, answer-said, data-said, disclosure-said, said};
-ghost use Rattle.packet.specs.Reading.{told, data-of, request-long, answer-long, data-long, disclosure-long, read-request, read-answer, read-data, read-key, read-packet};
+ghost use Rattle.packet.specs.Reading.{told, request-long, answer-long, data-long, disclosure-long, read-request, read-answer, read-data, read-key, read-packet};
 ghost use Rattle.packet.specs.Writing.{Writes};
 use crate::fields::byte;
 use crate::fields::eight_bytes;
 use crate::fields::four_bytes;
 use crate::fields::part_at;
 use crate::fields::two_bytes;
+use crate::kinds::ANSWER;
 use crate::kinds::Answer;
+use crate::kinds::DATA;
 use crate::kinds::Data;
 use crate::kinds::Disclosure;
+use crate::kinds::KEY;
 use crate::kinds::Packet;
+use crate::kinds::REQUEST;
 use crate::kinds::Request;
 use refusal::Refusal;
-
-const REQUEST: u8 = 1;
-
-const ANSWER: u8 = 2;
-
-const DATA: u8 = 3;
-
-const KEY: u8 = 4;
 
 fn request_fields(bytes: &[u8]) -> Result<Request<'_>, Refusal>
     ensures { λ r. ⌜ told request-said r ≡ request-long (now (bytes .entry)) ⌝ }
@@ -80,6 +74,7 @@ fn key_fields(bytes: &[u8]) -> Result<Disclosure<'_>, Refusal>
     }
 }
 
+// Each reader of one kind refuses another kind whatever its length.
 pub fn read_request(bytes: &[u8]) -> Result<Request<'_>, Refusal>
     ensures { λ r. ⌜ told request-said r ≡ read-request (now (bytes .entry)) ⌝ }
 {

@@ -1,6 +1,6 @@
 // Writing fills the start of a buffer, or leaves all of it as it was.
 ghost use mathlib.Core.Path.{_≡_};
-ghost use Prim.Native.Nat.{ℕ, _+_, _^_, _≤_, _<_};
+ghost use Prim.Native.Nat.{_+_, _^_, _≤_, _<_};
 ghost use mathlib.Core.Bool.{cond};
 ghost use lib.ListN.{length, take};
 ghost use Rattle.std.specs.Vec.{made};
@@ -15,10 +15,15 @@ use crate::fields::put_byte;
 use crate::fields::put_eight;
 use crate::fields::put_four;
 use crate::fields::put_two;
+use crate::kinds::ANSWER;
 use crate::kinds::Answer;
+use crate::kinds::DATA;
 use crate::kinds::Data;
 use crate::kinds::Disclosure;
+use crate::kinds::KEY;
+use crate::kinds::MAX_PAYLOAD;
 use crate::kinds::Packet;
+use crate::kinds::REQUEST;
 use crate::kinds::Request;
 use refusal::Refusal;
 
@@ -28,7 +33,7 @@ fn put_request(packet: &Request, out: &mut [u8])
     ensures fits { λ _. ⌜ Fits (a-request (request-said (now (packet .entry)))) ⌝ }
 {
     let nonce = packet.nonce;
-    put_byte(out, 0, 1);
+    put_byte(out, 0, REQUEST);
     put(out, 1, nonce);
 }
 
@@ -39,7 +44,7 @@ fn put_answer_covered(packet: &Answer, out: &mut [u8])
     ensures fits { λ _. ⌜ Covered-fits (answer-said (now (packet .entry))) ⌝ }
 {
     let key = packet.key;
-    put_byte(out, 0, 2);
+    put_byte(out, 0, ANSWER);
     put_eight(out, 1, packet.time);
     put(out, 9, key);
     put_two(out, 25, packet.interval);
@@ -63,7 +68,7 @@ fn put_data_covered(packet: &Data, out: &mut [u8])
     ensures after { λ _. ⌜ now (out .exit) ≡ filled (data-covered (data-said (now (packet .entry)))) (now (out .entry)) ⌝ }
     ensures fits { λ _. ⌜ data-said (now (packet .entry)) .interval < 2 ^ 16 ⌝ }
 {
-    put_byte(out, 0, 3);
+    put_byte(out, 0, DATA);
     put_two(out, 1, packet.interval);
     put_byte(out, 3, packet.number);
     put(out, 4, packet.payload);
@@ -86,7 +91,7 @@ fn put_key(packet: &Disclosure, out: &mut [u8])
     ensures fits { λ _. ⌜ Fits (a-key (disclosure-said (now (packet .entry)))) ⌝ }
 {
     let key = packet.key;
-    put_byte(out, 0, 4);
+    put_byte(out, 0, KEY);
     put_two(out, 1, packet.interval);
     put(out, 3, key);
 }
@@ -98,12 +103,13 @@ fn length_of(packet: &Packet) -> Result<usize, Refusal>
     match packet {
         Packet::Request(_) => Ok(9),
         Packet::Answer(_) => Ok(48),
-        Packet::Data(data) if data.payload.len() <= 64 => Ok(12 + data.payload.len()),
+        Packet::Data(data) if data.payload.len() <= MAX_PAYLOAD => Ok(12 + data.payload.len()),
         Packet::Data(_) => Err(Refusal::TooLong),
         Packet::Key(_) => Ok(19),
     }
 }
 
+// The payload is asked for before the room.
 fn fill(packet: &Packet, out: &mut [u8]) -> Result<usize, Refusal>
     ensures value { λ r. ⌜ r ≡ write-packet (said (now (packet .entry))) (now (out .entry)) .0 ⌝ }
     ensures after { λ _. ⌜ now (out .exit) ≡ write-packet (said (now (packet .entry))) (now (out .entry)) .1 ⌝ }
@@ -148,7 +154,7 @@ impl Data<'_> {
         ensures value { λ r. ⌜ r ≡ write-covered (data-said (now (self .entry))) (now (out .entry)) .0 ⌝ }
         ensures after { λ _. ⌜ now (out .exit) ≡ write-covered (data-said (now (self .entry))) (now (out .entry)) .1 ⌝ }
     {
-        if self.payload.len() > 64 {
+        if self.payload.len() > MAX_PAYLOAD {
             return Err(Refusal::TooLong);
         }
         put_data_covered(self, out);

@@ -1,0 +1,13 @@
+pub mod Keeping
+pub mod Uptos
+pub mod Receptions
+pub mod Asking
+pub mod Clocks
+pub mod Receivers
+pub mod Senders
+pub mod Welcomes
+pub mod Joins
+pub mod Meanings
+pub mod Granted
+pub mod Theorem
+pub mod Sampled

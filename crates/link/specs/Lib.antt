@@ -1,0 +1,10 @@
+pub mod Questions
+pub mod Intervals
+pub mod Clock
+pub mod Reception
+pub mod Receiver
+pub mod Join
+pub mod Base
+pub mod Sender
+pub mod Histories
+pub mod Samples
