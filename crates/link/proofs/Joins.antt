@@ -78,7 +78,7 @@ all-front P [] ys h = tt
 all-front P (y ∷ xs) ys h = (h .0, all-front P xs ys (h .1))
 
 -- an answer whose covered part fits, and that is as long as an answer, reads as itself
-answer-reads : (a : Answer) → Covered-fits a → length (answer-bytes a) ≡ 48 → answer-of (answer-bytes a) ≡ a
+pub answer-reads : (a : Answer) → Covered-fits a → length (answer-bytes a) ≡ 48 → answer-of (answer-bytes a) ≡ a
 unfolding answer-bytes answer-covered
 answer-reads a covered long =
     let tag-long : length (a .tag) ≡ 8 = omega (arith, length-answer-covered a (covered .1), length-append (answer-covered a) (a .tag), long) in

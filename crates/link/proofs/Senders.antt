@@ -47,7 +47,7 @@ due-later : (x : Setup) (j s t : ℕ) → s ≤ t → pos (j + x .delay) ≤ℤ 
 due-later x j s t h due =
     let more = since-grows (x .start) (x .duration) (pos s) (pos t) (omega (arith, ints)) in omega (arith, ints)
 
-in-range : (i : ℤ) (n : ℕ) → (leZ (pos 1) i && leZ i (pos n)) ≡ true → (1 ≤ natAbs i) × (natAbs i ≤ n)
+pub in-range : (i : ℤ) (n : ℕ) → (leZ (pos 1) i && leZ i (pos n)) ≡ true → (1 ≤ natAbs i) × (natAbs i ≤ n)
 in-range i n h =
     let both = and-parts (leZ (pos 1) i) (leZ i (pos n)) h in
     let low = both .0 in
@@ -55,7 +55,7 @@ in-range i n h =
     (omega (arith, ints), omega (arith, ints))
 
 -- the interval of a key to be disclosed
-due-key : (last count delay : ℕ) (i : ℤ) → ltZ (pos last) (minZ (i -ℤ pos delay) (pos count)) ≡ true →
+pub due-key : (last count delay : ℕ) (i : ℤ) → ltZ (pos last) (minZ (i -ℤ pos delay) (pos count)) ≡ true →
     (0 < natAbs (minZ (i -ℤ pos delay) (pos count))) × (natAbs (minZ (i -ℤ pos delay) (pos count)) ≤ count) × (pos (natAbs (minZ (i -ℤ pos delay) (pos count)) + delay) ≤ℤ i)
 due-key last count delay i h = (omega (arith, ints, clamps), omega (arith, ints, clamps), omega (arith, ints, clamps))
 

@@ -8,3 +8,4 @@ pub mod Base
 pub mod Sender
 pub mod Histories
 pub mod Samples
+pub mod Unharmed

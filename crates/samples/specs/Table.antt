@@ -12,6 +12,7 @@ use Rattle.packet.specs.Kinds.{Data, a-data}
 use Rattle.packet.specs.Layouts.{data-covered, packet-bytes}
 use Rattle.packet.specs.Reading.{read-packet}
 use Rattle.std.specs.declared.result.Result.the-variants.{Ok}
+use Rattle.link.specs.Samples.{Samples-stand}
 use Rattle.samples.specs.declared.Samples.{Samples}
 
 abbrev pub zero-key : Key
@@ -31,3 +32,5 @@ pub record Table (s : Samples) : Type 0 where
   -- that packet, as written bytes and as read fields
   pub data-written : s .«data_packet» ≡ packet-bytes (a-data (first-data (s .«tag_of_data»)))
   pub data-read : read-packet (s .«data_packet») ≡ Ok (a-data (first-data (s .«tag_of_data»)))
+  -- the receiver's clock, and the two questions that it decides, on both sides of their signs
+  pub clock : Samples-stand
