@@ -5,12 +5,13 @@ import pathlib
 import random
 import sys
 
-from model import LENGTHS, MAKES, derive, down, packet, tag
+from model import LENGTHS, MAKES, derive, down, packet, pebbled, table, tag
 
 HERE = pathlib.Path(__file__).resolve().parent.parent / 'crates' / 'vectors'
 MEANING = {
     'refused 1': 'the packet is of no kind that this call takes',
     'refused 2': 'the packet has not the length of its kind',
+    'refused 15': 'a parameter is outside its limits',
     'refused 17': 'the payload or the message is too long',
 }
 
@@ -24,8 +25,8 @@ RIVEST = [
 ]
 
 UNREAD = [
-    ('rc6 00 00', 'a case begins with rc5, adding, tag, derive, down or packet'),
-    ('tag rc6 00000000000000000000000000000000 -', 'after tag, derive or down comes rc5 or adding'),
+    ('rc6 00 00', 'a case begins with rc5, adding, tag, derive, down, packet, pebbled or table'),
+    ('tag rc6 00000000000000000000000000000000 -', 'after tag, derive, down or pebbled comes rc5 or adding'),
     ('rc5 00000000000000000000000000000000', 'the case has not as many words as its task takes'),
     ('rc5 00000000000000000000000000000000 0000000000000000 00', 'the case has not as many words as its task takes'),
     ('rc5 000000000000000000000000000000 0000000000000000', 'the key is not 32 hexadecimal digits'),
@@ -36,6 +37,8 @@ UNREAD = [
     ('derive rc5 00000000000000000000000000000000 0100', 'the purpose is not 2 hexadecimal digits'),
     ('down rc5 00000000000000000000000000000000 4294967296', 'the count is not a number from 0 to 4294967295'),
     ('down rc5 00000000000000000000000000000000 -1', 'the count is not a number from 0 to 4294967295'),
+    ('pebbled rc5 00000000000000000000000000000000', 'the case has not as many words as its task takes'),
+    ('table 00', 'the key is not 32 hexadecimal digits'),
     ('packet 01 02', 'the case has not as many words as its task takes'),
     ('packet 0', 'the bytes are neither pairs of hexadecimal digits nor -'),
     ('rc5 00000000000000000000000000000000 0000000000000000 =', 'after = comes a value'),
@@ -50,6 +53,10 @@ def value(words):
     """the value of a case, by the model"""
     if words[0] == 'packet':
         return packet(b'' if words[1] == '-' else bytes.fromhex(words[1]))
+    if words[0] == 'table':
+        return table([bytes.fromhex(word) for word in words[1:]])
+    if words[0] == 'pebbled':
+        return pebbled(MAKES[words[1]], bytes.fromhex(words[2]), int(words[3]))
     if words[0] in MAKES:
         make, key, block = MAKES[words[0]], bytes.fromhex(words[1]), bytes.fromhex(words[2])
         return make(key).encrypt(block).hex()
@@ -73,9 +80,13 @@ def random_packet(rng):
 def random_case(rng, longest=40):
     name = rng.choice(sorted(MAKES))
     key = digits(rng, 16)
-    task = rng.choice(['encrypt', 'tag', 'derive', 'down', 'packet'])
+    task = rng.choice(['encrypt', 'tag', 'derive', 'down', 'packet', 'pebbled', 'table'])
     if task == 'packet':
         return ['packet', random_packet(rng).hex() or '-']
+    if task == 'pebbled':
+        return ['pebbled', name, key, str(rng.randrange(7))]
+    if task == 'table':
+        return ['table'] + [digits(rng, 16) for _ in range(rng.choice([1, 2, 3, 4, 8]))]
     if task == 'encrypt':
         return [name, key, digits(rng, MAKES[name].width)]
     if task == 'tag':
@@ -155,6 +166,14 @@ def gate():
     sheet.case(['packet', '02' + 'ff' * 47], packet(b'\x02' + b'\xff' * 47))
     for data in ('-', '00', '05', 'ff', '01', '02', '03', '04', '00' * 9, '05' * 19):
         sheet.case(['packet', data], value(['packet', data]))
+    sheet.passed('# key sources: each key with its steps, then the sum of the steps')
+    for name in sorted(MAKES):
+        for k in (0, 1, 2, 3, 5, 13):
+            words = ['pebbled', name, digits(rng, 16), str(k)]
+            sheet.case(words, value(words))
+    for count in (0, 1, 2, 3, 4, 8):
+        words = ['table'] + [digits(rng, 16) for _ in range(count)]
+        sheet.case(words, value(words))
     sheet.passed('# a value in capital letters, one that is wrong, and cases that are only shown')
     sheet.case(['rc5', zero, '00' * 8], '21A5DBEE154B8F6D')
     sheet.case(['rc5', zero, '00' * 8], '21a5dbee154b8f6e')

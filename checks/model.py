@@ -1,4 +1,4 @@
-"""An independent model of the ciphers, tags, chains and packets, written from the published papers and docs/PROTOCOL.md.
+"""An independent model of the ciphers, tags, chains, key sources and packets, written from the published papers and docs/PROTOCOL.md.
 
 It shares no code with the crates: what it computes is held against what they compute."""
 
@@ -94,3 +94,47 @@ def packet(data):
         return (f'data, interval {number(1, 2)}, number {data[3]}, '
                 f'payload {data[4:-8].hex() or "-"}, tag {data[-8:].hex()}')
     return f'key, interval {number(1, 2)}, key {data[3:].hex()}'
+
+
+def pebbled_steps(k):
+    """the steps of each call of a pebbled source over 2^k keys, by moving its levels; the keys do not matter"""
+    n = 2 ** k
+    levels = {j: [2 ** j, 2 ** j] for j in range(1, k + 1)}  # place, target
+    counts = []
+    for i in range(1, n + 1):
+        steps = 0
+        for level in levels.values():
+            if level[0] > level[1]:
+                level[0] -= 2
+                steps += 2
+        if i % 2:
+            z = ((i + 1) & -(i + 1)).bit_length() - 1
+            assert levels[z][0] == i + 1
+            steps += 1
+        else:
+            j = (i & -i).bit_length() - 1
+            assert levels[j][0] == i
+            if i + 2 * 2 ** j <= n:
+                assert any(level[0] == i + 3 * 2 ** j for level in levels.values())
+                levels[j] = [i + 3 * 2 ** j, i + 2 * 2 ** j]
+            else:
+                del levels[j]
+        counts.append(steps)
+    return counts
+
+
+def pebbled(make, last, k):
+    """each key of the chain with its steps, and the sum of the steps, or the refusal"""
+    if not 1 <= k <= 12:
+        return 'refused 15'
+    keys = [last]
+    for _ in range(2 ** k - 1):
+        keys.append(derive(make, keys[-1], 1))
+    counts = pebbled_steps(k)
+    return ''.join(f'{key.hex()} {steps}, ' for key, steps in zip(reversed(keys), counts)) + f'sum {sum(counts)}'
+
+
+def table(keys):
+    if len(keys) not in [2 ** k for k in range(1, 13)]:
+        return 'refused 15'
+    return ''.join(f'{key.hex()} 0, ' for key in keys) + 'sum 0'

@@ -4,7 +4,7 @@
 import pathlib
 import sys
 
-from model import Rc5, derive, down, tag
+from model import Rc5, derive, down, pebbled_steps, tag
 
 HERE = pathlib.Path(__file__).resolve().parent.parent / 'crates' / 'rehearse' / 'stdout'
 COUNT, INTERVAL = 8, 3
@@ -17,9 +17,9 @@ def text():
     order = covered + tag(Rc5, derive(Rc5, keys[INTERVAL], 2), covered)
     changed = order[:13] + b'3' + order[14:]
     wrong = keys[INTERVAL][:-1] + bytes([keys[INTERVAL][-1] ^ 1])
-    lines = [f'The base makes a chain of {COUNT} RC5 keys from the last one down.']
-    lines += [f'  K_{m} {keys[m].hex()}' for m in range(COUNT, 0, -1)]
-    lines += [f'  K_0 {keys[0].hex()} is the commitment that carriages know']
+    lines = [f'The base draws the {COUNT} RC5 keys of its chain in their order from a pebbled source.']
+    lines += [f'  K_{m} {keys[m].hex()}, steps {steps}' for m, steps in enumerate(pebbled_steps(3), 1)]
+    lines += [f'  K_0 {keys[0].hex()}, one step below K_1, is the commitment that carriages know']
     lines += [f'The base orders "racking +2" in interval {INTERVAL}, and the carriage holds it.']
     lines += [f'  order {order.hex()}']
 

@@ -36,7 +36,7 @@ pub impl Block for Adding as AddingBlock {
 
     fn encrypt(&self, block: [u8; 16]) -> [u8; 16] {
         let mut sums = block;
-        for m in 0..WIDTH {
+        for m in 0..block.len() {
             sums[m] = sum(block[m], self.key[m]);
         }
         sums

@@ -8,6 +8,7 @@ ghost use Rattle.chain.specs.Chain.{interval-tag-key};
 ghost use Rattle.rehearse.specs.Orders.{Judged};
 use chain::down;
 use chain::interval_tag_key;
+use chain::step;
 use chain::tag;
 use cipher::Key;
 use cipher::KeyPartialEq;
@@ -20,10 +21,15 @@ use packet::read_data;
 use packet::write;
 use refusal::Refusal;
 use refusal::RefusalDisplay;
+use source::KeySource;
+use source::Pebbled;
+use source::PebbledSource;
 use std::error::AnyError;
 
-// The chain has 8 keys; the last is chosen, and all others follow from it.
-const COUNT: u32 = 8;
+// The chain has 2^3 keys; the last is chosen, and all others follow from it.
+const BITS: u32 = 3;
+
+const COUNT: u16 = 8;
 
 const LAST: Key = Key {
     high: 0x0011223344556677,
@@ -37,11 +43,6 @@ enum Verdict {
     Accepted,
     WrongKey,
     WrongTag,
-}
-
-// The key of an interval of the chain, or its commitment for interval 0.
-fn chain_key(interval: u16) -> Key {
-    down::<Rc5Block>(LAST, COUNT.saturating_sub(u32::from(interval)))
 }
 
 // The tag of an order, made under the key of its interval over the bytes before the tag.
@@ -90,28 +91,45 @@ fn judged(commitment: Key, interval: u16, disclosed: Key, order: &[u8], found: [
     }
 }
 
-fn show_chain(rt: &LibcRuntime) -> Result<(), AnyError> {
+// What both sides need of the chain: its commitment, and the key of the order's interval.
+#[derive(Clone, Copy)]
+struct Keys {
+    commitment: Key,
+    interval: Key,
+}
+
+// Draws every key of the chain, and prints each with the steps that it took.
+fn draw_keys(rt: &LibcRuntime, source: &mut Pebbled<Rc5Block>) -> Result<Keys, AnyError> {
+    let mut keys = Keys {
+        commitment: LAST,
+        interval: LAST,
+    };
     println!(
         rt,
-        "The base makes a chain of {COUNT} RC5 keys from the last one down."
+        "The base draws the {COUNT} RC5 keys of its chain in their order from a pebbled source."
     )?;
-    for interval in (1..9).rev() {
-        println!(
-            rt,
-            "  K_{interval} {}",
-            Hex(&chain_key(interval).to_bytes())
-        )?;
+    for m in 1..=COUNT {
+        let Ok((key, steps)) = source.next() else {
+            return Err("the source has no key left".into());
+        };
+        println!(rt, "  K_{m} {}, steps {steps}", Hex(&key.to_bytes()))?;
+        if m == 1 {
+            keys.commitment = step::<Rc5Block>(key);
+        }
+        if m == INTERVAL {
+            keys.interval = key;
+        }
     }
     println!(
         rt,
-        "  K_0 {} is the commitment that carriages know",
-        Hex(&chain_key(0).to_bytes())
+        "  K_0 {}, one step below K_1, is the commitment that carriages know",
+        Hex(&keys.commitment.to_bytes())
     )?;
-    Ok(())
+    Ok(keys)
 }
 
 // What the carriage makes of the bytes that it held and of a key that was disclosed.
-fn look_at(disclosed: Key, held: &[u8]) -> Result<Verdict, Refusal> {
+fn look_at(commitment: Key, disclosed: Key, held: &[u8]) -> Result<Verdict, Refusal> {
     let order = read_data(held)?;
     let mut covered = [0; 68];
     let length = order.covered(&mut covered)?;
@@ -120,7 +138,7 @@ fn look_at(disclosed: Key, held: &[u8]) -> Result<Verdict, Refusal> {
     }
     let tag = order.tag;
     Ok(judged(
-        chain_key(0),
+        commitment,
         order.interval,
         disclosed,
         &covered[0..length],
@@ -129,10 +147,15 @@ fn look_at(disclosed: Key, held: &[u8]) -> Result<Verdict, Refusal> {
 }
 
 // Prints what the carriage makes of an order and a key, and why.
-fn show_verdict(rt: &LibcRuntime, disclosed: Key, held: &[u8]) -> Result<(), AnyError> {
+fn show_verdict(
+    rt: &LibcRuntime,
+    commitment: Key,
+    disclosed: Key,
+    held: &[u8],
+) -> Result<(), AnyError> {
     println!(rt, "  order {}", Hex(held))?;
     println!(rt, "  key   {}", Hex(&disclosed.to_bytes()))?;
-    match look_at(disclosed, held) {
+    match look_at(commitment, disclosed, held) {
         Ok(Verdict::Accepted) => println!(
             rt,
             "  {INTERVAL} steps down from the key end on K_0, and the tag is right: accepted"
@@ -156,7 +179,7 @@ fn show_refusal(rt: &LibcRuntime, refusal: Refusal) -> Result<(), AnyError> {
     Ok(())
 }
 
-fn rehearse(rt: &LibcRuntime, key: Key, order: &mut [u8]) -> Result<(), AnyError> {
+fn rehearse(rt: &LibcRuntime, keys: Keys, order: &mut [u8]) -> Result<(), AnyError> {
     println!(
         rt,
         "The base orders \"racking +2\" in interval {INTERVAL}, and the carriage holds it."
@@ -166,13 +189,14 @@ fn rehearse(rt: &LibcRuntime, key: Key, order: &mut [u8]) -> Result<(), AnyError
         rt,
         "The base discloses K_{INTERVAL}, and the carriage looks at the order again."
     )?;
-    show_verdict(rt, key, order)?;
+    let key = keys.interval;
+    show_verdict(rt, keys.commitment, key, order)?;
     println!(rt, "The same with another key.")?;
     let wrong = Key {
         high: key.high,
         low: key.low ^ 1,
     };
-    show_verdict(rt, wrong, order)?;
+    show_verdict(rt, keys.commitment, wrong, order)?;
     println!(
         rt,
         "The same with one byte of the order changed, +3 for +2."
@@ -180,15 +204,18 @@ fn rehearse(rt: &LibcRuntime, key: Key, order: &mut [u8]) -> Result<(), AnyError
     if order.len() > 13 {
         order[13] = b'3';
     }
-    show_verdict(rt, key, order)
+    show_verdict(rt, keys.commitment, key, order)
 }
 
 fn run(rt: &LibcRuntime) -> Result<(), AnyError> {
-    show_chain(rt)?;
-    let key = chain_key(INTERVAL);
+    let mut source = match Pebbled::<Rc5Block>::make(LAST, BITS) {
+        Ok(source) => source,
+        Err(refusal) => return show_refusal(rt, refusal),
+    };
+    let keys = draw_keys(rt, &mut source)?;
     let mut sent = [0; 76];
-    match send(key, b"racking +2", &mut sent) {
-        Ok(length) if length <= 76 => rehearse(rt, key, &mut sent[0..length]),
+    match send(keys.interval, b"racking +2", &mut sent) {
+        Ok(length) if length <= 76 => rehearse(rt, keys, &mut sent[0..length]),
         Ok(_) => Err("the order is longer than a packet may be".into()),
         Err(refusal) => show_refusal(rt, refusal),
     }

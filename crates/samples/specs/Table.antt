@@ -13,6 +13,7 @@ use Rattle.packet.specs.Layouts.{data-covered, packet-bytes}
 use Rattle.packet.specs.Reading.{read-packet}
 use Rattle.std.specs.declared.result.Result.the-variants.{Ok}
 use Rattle.link.specs.Samples.{Samples-stand}
+use Rattle.pebbles.specs.Samples.{Sampled}
 use Rattle.samples.specs.declared.Samples.{Samples}
 
 abbrev pub zero-key : Key
@@ -34,3 +35,5 @@ pub record Table (s : Samples) : Type 0 where
   pub data-read : read-packet (s .«data_packet») ≡ Ok (a-data (first-data (s .«tag_of_data»)))
   -- the receiver's clock, and the two questions that it decides, on both sides of their signs
   pub clock : Samples-stand
+  -- the steps of each call of a pebbled source over eight keys
+  pub pebbles : Sampled

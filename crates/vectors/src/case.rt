@@ -3,6 +3,7 @@ use crate::fault::Fault;
 use crate::fault::Trouble;
 use crate::fault::TroubleFromAlloc;
 use crate::fault::TroubleFromFault;
+use crate::fault::TroubleFromRefused;
 use cipher::Key;
 use hex::parse;
 use std::alloc::Global;
@@ -25,6 +26,8 @@ pub enum Task {
 pub enum Case {
     Cipher(Make, Key, Task),
     Packet(Vec<u8>),
+    Pebbled(Make, Key, u32),
+    Table(Vec<Key>),
 }
 
 fn make_named(word: &str) -> Option<Make> {
@@ -119,7 +122,30 @@ fn read_cipher_case(heap: Global, name: &str, words: [Option<&str>; 4]) -> Resul
     Ok(Case::Cipher(make, key, task))
 }
 
-// Reads a case: `rc5 KEY BLOCK`, `packet BYTES`, or a task with its cipher, key and last word.
+fn read_pebbled(heap: Global, words: [Option<&str>; 4]) -> Result<Case, Trouble> {
+    let [Some(cipher), Some(key_word), Some(word), None] = words else {
+        return Err(Trouble::Line(Fault::Words));
+    };
+    let Some(make) = make_named(cipher) else {
+        return Err(Trouble::Line(Fault::NoCipher));
+    };
+    let key = key(heap, key_word)?;
+    match word.parse::<u32>() {
+        Ok(k) => Ok(Case::Pebbled(make, key, k)),
+        Err(_) => Err(Trouble::Line(Fault::BadCount)),
+    }
+}
+
+// The keys that stand behind the first word of a line.
+fn read_table(heap: Global, text: &str) -> Result<Case, Trouble> {
+    let mut keys = Vec::new(heap);
+    for word in text.split_whitespace().skip(1) {
+        keys.push(key(heap, word)?)?;
+    }
+    Ok(Case::Table(keys))
+}
+
+// Reads a case: `rc5 KEY BLOCK`, `packet BYTES`, `table KEY KEY ..`, or a task with its cipher, key and last word.
 pub(crate) fn read(heap: Global, text: &str) -> Result<Case, Trouble> {
     let mut words = text.split_whitespace();
     let Some(first) = words.next() else {
@@ -137,6 +163,12 @@ pub(crate) fn read(heap: Global, text: &str) -> Result<Case, Trouble> {
             [Some(word), None, _, _] => Ok(Case::Packet(message(heap, word)?)),
             _ => Err(Trouble::Line(Fault::Words)),
         };
+    }
+    if first == "pebbled" {
+        return read_pebbled(heap, rest);
+    }
+    if first == "table" {
+        return read_table(heap, text);
     }
     if is_task(first) {
         return read_cipher_case(heap, first, rest);

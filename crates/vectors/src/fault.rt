@@ -1,5 +1,6 @@
 // Why a line cannot be read as a case.
 use std::alloc::AllocError;
+use std::alloc::Refused;
 use std::fmt;
 
 #[derive(Clone, Copy)]
@@ -21,9 +22,11 @@ pub impl fmt::Display for Fault as FaultDisplay {
         match self {
             Fault::NotText => f.write_str("the line is not text"),
             Fault::NoTask => f.write_str(
-                "a case begins with rc5, adding, tag, derive, down or packet",
+                "a case begins with rc5, adding, tag, derive, down, packet, pebbled or table",
             ),
-            Fault::NoCipher => f.write_str("after tag, derive or down comes rc5 or adding"),
+            Fault::NoCipher => f.write_str(
+                "after tag, derive, down or pebbled comes rc5 or adding",
+            ),
             Fault::Words => f.write_str("the case has not as many words as its task takes"),
             Fault::BadKey => f.write_str("the key is not 32 hexadecimal digits"),
             Fault::BadBlock => f.write_str(
@@ -54,5 +57,11 @@ pub impl From<AllocError> for Trouble as TroubleFromAlloc {
 pub impl From<Fault> for Trouble as TroubleFromFault {
     fn from(fault: Fault) -> Trouble {
         Trouble::Line(fault)
+    }
+}
+
+pub impl<T: Drop> From<Refused<T>> for Trouble as TroubleFromRefused {
+    fn from(_refused: Refused<T>) -> Trouble {
+        Trouble::Memory(AllocError)
     }
 }

@@ -18,6 +18,11 @@ use packet::Packet;
 use packet::Request;
 use packet::read;
 use refusal::Refusal;
+use source::KeySource;
+use source::Pebbled;
+use source::PebbledSource;
+use source::Table;
+use source::TableSource;
 use std::alloc::AllocError;
 use std::alloc::Global;
 use std::fmt;
@@ -130,10 +135,47 @@ fn packet_value(heap: Global, bytes: &[u8]) -> Result<Value, AllocError> {
     }
 }
 
+// Every key of an unused source with the steps that it took, and the sum of the steps.
+fn drawn<S: KeySource + Drop>(heap: Global, source: S) -> Result<Value, AllocError> {
+    let mut source = source;
+    let mut text = String::new(heap);
+    let mut sum: u32 = 0;
+    for _ in 0..source.count() {
+        match source.next() {
+            Ok((key, steps)) => {
+                let piece = format!(heap, "{} {steps}, ", Hex(&key.to_bytes()))?;
+                text.push_str(piece.as_str())?;
+                sum = sum.saturating_add(steps);
+            }
+            Err(refusal) => return Ok(Value::Refused(refusal)),
+        }
+    }
+    let last = format!(heap, "sum {sum}")?;
+    text.push_str(last.as_str())?;
+    Ok(Value::Text(text))
+}
+
+fn pebbled<B: Block>(heap: Global, last: Key, k: u32) -> Result<Value, AllocError> {
+    match Pebbled::<B>::make(last, k) {
+        Ok(source) => drawn(heap, source),
+        Err(refusal) => Ok(Value::Refused(refusal)),
+    }
+}
+
+fn table(heap: Global, keys: &Vec<Key>) -> Result<Value, AllocError> {
+    match Table::new(keys.clone()?) {
+        Ok(source) => drawn(heap, source),
+        Err((refusal, _)) => Ok(Value::Refused(refusal)),
+    }
+}
+
 pub(crate) fn value_of(heap: Global, case: &Case) -> Result<Value, AllocError> {
     match case {
         Case::Cipher(Make::Rc5, key, task) => under::<Rc5Block>(heap, *key, task),
         Case::Cipher(Make::Adding, key, task) => under::<AddingBlock>(heap, *key, task),
         Case::Packet(bytes) => packet_value(heap, bytes),
+        Case::Pebbled(Make::Rc5, key, k) => pebbled::<Rc5Block>(heap, *key, *k),
+        Case::Pebbled(Make::Adding, key, k) => pebbled::<AddingBlock>(heap, *key, *k),
+        Case::Table(keys) => table(heap, keys),
     }
 }

@@ -1,0 +1,13 @@
+pub mod Zeros
+pub mod Places
+pub mod Strides
+pub mod Rows
+pub mod Ready
+pub mod Calls
+pub mod Runs
+pub mod Samples
+pub mod Lowering
+pub mod Bare
+pub mod Forms
+pub mod Draws
+pub mod Making

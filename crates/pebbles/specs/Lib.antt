@@ -1,0 +1,5 @@
+pub mod Levels
+pub mod Places
+pub mod Runs
+pub mod Draws
+pub mod Samples

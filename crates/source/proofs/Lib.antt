@@ -1,0 +1,2 @@
+pub mod KeysFrom
+pub mod WholeRuns
