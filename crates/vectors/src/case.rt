@@ -109,27 +109,28 @@ fn is_task(name: &str) -> bool {
     }
 }
 
-// The rest of a case whose first word names a task: a cipher, a key and one word more.
-fn read_cipher_case(heap: Global, name: &str, words: [Option<&str>; 4]) -> Result<Case, Trouble> {
+// What stands behind the name of a task: a cipher, a key and one word more.
+fn operands<'a>(
+    heap: Global,
+    words: [Option<&'a str>; 4],
+) -> Result<(Make, Key, &'a str), Trouble> {
     let [Some(cipher), Some(key_word), Some(word), None] = words else {
         return Err(Trouble::Line(Fault::Words));
     };
     let Some(make) = make_named(cipher) else {
         return Err(Trouble::Line(Fault::NoCipher));
     };
-    let key = key(heap, key_word)?;
+    Ok((make, key(heap, key_word)?, word))
+}
+
+fn read_cipher_case(heap: Global, name: &str, words: [Option<&str>; 4]) -> Result<Case, Trouble> {
+    let (make, key, word) = operands(heap, words)?;
     let task = read_task(heap, name, word)?;
     Ok(Case::Cipher(make, key, task))
 }
 
 fn read_pebbled(heap: Global, words: [Option<&str>; 4]) -> Result<Case, Trouble> {
-    let [Some(cipher), Some(key_word), Some(word), None] = words else {
-        return Err(Trouble::Line(Fault::Words));
-    };
-    let Some(make) = make_named(cipher) else {
-        return Err(Trouble::Line(Fault::NoCipher));
-    };
-    let key = key(heap, key_word)?;
+    let (make, key, word) = operands(heap, words)?;
     match word.parse::<u32>() {
         Ok(k) => Ok(Case::Pebbled(make, key, k)),
         Err(_) => Err(Trouble::Line(Fault::BadCount)),
