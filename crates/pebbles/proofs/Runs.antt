@@ -7,7 +7,6 @@ use mathlib.Core.Path.{_≡_, refl, sym, ap, ap₂, subst, _∙_}
 use native.Mathlib.Nat.{le-refl, mul-one, sub-self}
 use native.Mathlib.Omega.{arith}
 use lib.Dec.{eqb, leb}
-use lib.ListN.{getD}
 use lib.Pow.{pow-pos, pow-mono}
 use Rattle.std.proofs.shelf.Bits.{pow-below}
 use Rattle.std.proofs.shelf.Tests.{cases-lt, cond-true, cond-false, eqb-false, leb-true, leb-false, le-leb, lt-leb}
@@ -15,9 +14,8 @@ use Rattle.std.specs.declared.option.Option.the-variants.{Some}
 use Rattle.pebbles.specs.declared.level.Level.{Level}
 use Rattle.pebbles.specs.Levels.{Levels, call, call-after, down, first-level, key-at, level, levels-after, lowered, lowering-steps, unless-away, unused}
 use Rattle.pebbles.specs.Places.{away-at, next-target, pebble, served, since, standing, standing-after, standing-levels}
-use Rattle.pebbles.specs.Runs.{Kept, Ready, Run, Pebbles-stand}
+use Rattle.pebbles.specs.Runs.{Kept, Ready, Run}
 use Rattle.pebbles.proofs.Calls.{Good, call-good, even-form, odd-form}
-use Rattle.pebbles.proofs.Making.{key-at-last}
 use Rattle.pebbles.proofs.Places.{served-is, since-is, standing-anew, target-stride}
 use Rattle.pebbles.proofs.Ready.{row-lowered, row-ready}
 use Rattle.pebbles.proofs.Rows.{row-at, row-nth, same-row}
@@ -83,17 +81,6 @@ first-stands {X} step top k j = go (leb j k) refl
         ap (λ x. record { key = down step top x; place = 2 ^ k; target = 2 ^ k; away = true }) (sym (sub-self (2 ^ k)))
         ∙ sym (beyond chain (2 ^ k) 0 (2 ^ j) (pow-pos j) (pow-below k j (leb-false _ _ e)))
 
--- the highest level has the chain's last key
-last-key : {X : Type 0} (chain : ℕ → X) (n g : ℕ) → 0 < n → g ≤ n → standing-after chain n g n .key ≡ chain n
-unfolding standing
-last-key chain n g pos within =
-    ⊎-elim (λ early. ap (λ l. l .key) (unserved chain n g n early (le-refl n)))
-    (λ end.
-    let now : g ≡ n * 1 = omega arith in
-    let past : n < n * 3 = omega arith in
-    ap (λ l. l .key) (standing-anew chain n n 0 g pos now ∙ cond-false _ _ _ (lt-leb _ _ past)) ∙ ap chain (mul-one n))
-    (cases-lt g n)
-
 -- the steps of a call, on any levels
 pub steps-counted : {X : Type 0} (step : X → X) (n i : ℕ) (ls : Levels X) → call step n i ls .steps ≡ lowering-steps ls + i % 2
 steps-counted step n i ls =
@@ -123,13 +110,7 @@ module _ {X : Type 0} (step : X → X) (top : X) (k room : ℕ) (some : 1 ≤ k)
         subst (Ready (key-at step top k) (2 ^ k) (g + 1))
         (sym (ap (map (lowered step)) (stands g (omega arith)) ∙ row-lowered step top k room some small fits g))
         (row-ready step top k room some small fits g more);
-    last = λ g l within.
-        ap (λ ls. getD ls (k - 1) l .key) (stands g within) ∙ ap (λ x. x .key) (row-at _ room k l some fits)
-        ∙ last-key (key-at step top k) (2 ^ k) g (pow-pos k) within ∙ key-at-last step top k;
     answers = λ g more. good g more .answer;
     steps = λ g more. steps-counted step (2 ^ k) (g + 1) (levels-after step top k room g);
     bounded = λ g more. good g more .steps;
   }
-
-pub pebbles-stand : (X : Type 0) → Pebbles-stand X
-pebbles-stand X step top k room some small fits = run step top k room some small fits

@@ -2,4 +2,3 @@ pub mod Levels
 pub mod Places
 pub mod Runs
 pub mod Draws
-pub mod Samples

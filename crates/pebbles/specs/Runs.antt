@@ -2,7 +2,6 @@
 use Prim.Native.Nat.{ℕ, _+_, _-_, _*_, _%_, _^_, _≤_, _<_}
 use mathlib.Core.List.{map}
 use mathlib.Core.Path.{_≡_}
-use lib.ListN.{getD}
 use Rattle.std.specs.declared.option.Option.the-variants.{Some}
 use Rattle.std.specs.shelf.Lists.{countBy}
 use Rattle.pebbles.specs.declared.level.Level.{Level}
@@ -28,13 +27,8 @@ pub record Run {X : Type 0} (step : X → X) (top : X) (k room : ℕ) : Type 0 w
   pub stands : (g : ℕ) → g ≤ 2 ^ k → levels-after step top k room g ≡ standing-levels (key-at step top k) (2 ^ k) room g
   pub kept : (g j : ℕ) (l : Level X) → g ≤ 2 ^ k → 0 < j → j ≤ room → level (levels-after step top k room g) j ≡ Some l → Kept (key-at step top k) (2 ^ k) l
   pub ready : (g : ℕ) → g < 2 ^ k → Ready (key-at step top k) (2 ^ k) (g + 1) (map (lowered step) (levels-after step top k room g))
-  -- the highest level has the last key all along
-  pub last : (g : ℕ) (l : Level X) → g ≤ 2 ^ k → getD (levels-after step top k room g) (k - 1) l .key ≡ top
   -- each answer is the chain's key
   pub answers : (g : ℕ) → g < 2 ^ k → call-after step top k room g .answer ≡ Some (key-at step top k (g + 1))
   -- it takes two steps for each level above its target, and one more for an odd place: at most k
   pub steps : (g : ℕ) → g < 2 ^ k → call-after step top k room g .steps ≡ 2 * countBy moves (levels-after step top k room g) + (g + 1) % 2
   pub bounded : (g : ℕ) → g < 2 ^ k → call-after step top k room g .steps ≤ k
-
-abbrev pub Pebbles-stand : Type 0 → Type 0
-Pebbles-stand X = (step : X → X) (top : X) (k room : ℕ) → 1 ≤ k → k < 32 → k ≤ room → Run step top k room

@@ -1,4 +1,4 @@
-// The levels of a pebbled key source. Its specs have the rule by which the levels move, and its proofs what holds over whole runs.
+// The levels of a pebbled key source. The specs have the rule by which they move, and the proofs what holds over whole runs.
 mod level;
 
 pub use level::Level;

@@ -1,8 +1,9 @@
 -- The sample table: known values of the definitions, one row for each.
 use mathlib.Core.Path.{_≡_}
-use mathlib.Core.List.{List, [], _∷_}
+use mathlib.Core.List.{List, [], _∷_, map}
 use Prim.Native.Nat.{ℕ}
 use lib.ListN.{replicate}
+use Rattle.std.specs.Iters.{counting}
 use Rattle.cipher.specs.declared.key.Key.{Key}
 use Rattle.cipher.specs.Keys.{key-bytes}
 use Rattle.cipher.specs.Makes.{rc5-make, adding-make}
@@ -13,7 +14,7 @@ use Rattle.packet.specs.Layouts.{data-covered, packet-bytes}
 use Rattle.packet.specs.Reading.{read-packet}
 use Rattle.std.specs.declared.result.Result.the-variants.{Ok}
 use Rattle.link.specs.Samples.{Samples-stand}
-use Rattle.pebbles.specs.Samples.{Sampled}
+use Rattle.pebbles.specs.Draws.{steps-after}
 use Rattle.samples.specs.declared.Samples.{Samples}
 
 abbrev pub zero-key : Key
@@ -36,4 +37,4 @@ pub record Table (s : Samples) : Type 0 where
   -- the receiver's clock, and the two questions that it decides, on both sides of their signs
   pub clock : Samples-stand
   -- the steps of each call of a pebbled source over eight keys
-  pub pebbles : Sampled
+  pub pebbled-steps : s .«pebbled_steps» ≡ map (steps-after 3 12) (counting 0 8)

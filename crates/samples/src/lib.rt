@@ -13,6 +13,8 @@ pub struct Samples {
     // Interval 2's first packet in that chain, with no payload: its tag, and all its bytes.
     pub tag_of_data: [u8; 8],
     pub data_packet: [u8; 12],
+    // The steps of each call of a pebbled source over eight keys.
+    pub pebbled_steps: [u32; 8],
 }
 
 pub fn known_values() -> Samples
@@ -25,5 +27,6 @@ pub fn known_values() -> Samples
         key_nought: [5, 6, 6, 6, 6, 6, 6, 6, 5, 5, 6, 6, 6, 6, 6, 6],
         tag_of_data: [0x0b, 6, 4, 6, 6, 6, 6, 6],
         data_packet: [3, 0, 2, 0, 0x0b, 6, 4, 6, 6, 6, 6, 6],
+        pebbled_steps: [1, 0, 3, 0, 1, 0, 1, 0],
     }
 }

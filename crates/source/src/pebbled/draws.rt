@@ -14,8 +14,22 @@ use cipher::Key;
 use refusal::Refusal;
 use std::marker::PhantomData;
 
+fn unused_source<B: Block>(last: Key, bits: u32) -> Pebbled<B>
+    requires { ⌜ (1 ≤ bits) × (bits ≤ 12) ⌝ }
+    ensures made { λ p. ⌜ Unused (stepped make) p make last bits ⌝ }
+    ensures runs { λ p. ⌜ Run (stepped make) p make last bits ⌝ }
+    ensures steps { λ _. ⌜ Stepping bits ⌝ }
+{
+    Pebbled {
+        levels: unused::<B>(last, bits),
+        bits,
+        given: 0,
+        block: PhantomData,
+    }
+}
+
 impl<B: Block> Pebbled<B> {
-    // The source of the 2^k keys of the chain whose last key is given.
+    // The source of the 2^k keys of the chain that ends in `last`.
     pub fn make(last: Key, k: u32) -> Result<Pebbled<B>, Refusal>
         ensures made { λ r. ⌜ elim r [ Ok p ↦ Unused (stepped make) p make last k | Err e ↦ (1 ≤ k → k ≤ 12 → ⊥) × (e ≡ OutOfLimits) ] ⌝ }
         ensures runs { λ r. ⌜ elim r [ Ok p ↦ Run (stepped make) p make last k × Stepping k | Err _ ↦ Unit {0} ] ⌝ }
@@ -23,12 +37,7 @@ impl<B: Block> Pebbled<B> {
         if k < 1 || k > 12 {
             return Err(Refusal::OutOfLimits);
         }
-        Ok(Pebbled {
-            levels: unused::<B>(last, k),
-            bits: k,
-            given: 0,
-            block: PhantomData,
-        })
+        Ok(unused_source(last, k))
     }
 }
 

@@ -1,6 +1,7 @@
 // How a table is made, and how keys are drawn from it.
 ghost use mathlib.Core.Bool.{true, false};
 ghost use mathlib.Core.Path.{_≡_};
+ghost use Prim.Native.Nat.{_≤_};
 ghost use lib.ListN.{length};
 ghost use Rattle.std.specs.Of.Vec.{vec-items};
 ghost use Rattle.std.specs.declared.result.Result.the-variants.{Ok, Err};
@@ -15,6 +16,7 @@ use refusal::Refusal;
 // Whether a table can have so many keys.
 fn is_size(count: usize) -> bool
     ensures yes { λ r. ⌜ (r ≡ true → Size count) ⌝ }
+    ensures limits { λ r. ⌜ (r ≡ true → (2 ≤ count) × (count ≤ 4096)) ⌝ }
     ensures no { λ r. ⌜ (r ≡ false → Size count → ⊥) ⌝ }
 {
     for k in 1u32..=12 {
