@@ -1,4 +1,4 @@
-"""An independent model of the ciphers, tags, chains, key sources and packets, written from the published papers and docs/PROTOCOL.md.
+"""An independent model of the ciphers, tags, chains, key sources, packets and the link, written from the published papers and docs/PROTOCOL.md.
 
 It shares no code with the crates: what it computes is held against what they compute."""
 
@@ -138,3 +138,105 @@ def table(keys):
     if len(keys) not in [2 ** k for k in range(1, 13)]:
         return 'refused 15'
     return ''.join(f'{key.hex()} 0, ' for key in keys) + 'sum 0'
+
+
+class Refused(Exception):
+    """a call's refusal, by its number"""
+
+
+def ask(*questions):
+    """the first question answered no refuses the call"""
+    for number, fine in questions:
+        if not fine:
+            raise Refused(number)
+
+
+def of_kind(data, kind):
+    low, high = LENGTHS[kind]
+    ask((1, bool(data) and data[0] == kind), (2, low <= len(data) <= high))
+
+
+def request(nonce):
+    return b'\x01' + nonce
+
+
+class Receiver:
+    """a receiver that joined with an answer"""
+
+    def __init__(self, make, pair, nonce, requested, drift, t, data):
+        of_kind(data, 2)
+        self.time, self.at = int.from_bytes(data[1:9], 'big'), int.from_bytes(data[25:27], 'big')
+        self.first, self.start = self.at, int.from_bytes(data[27:35], 'big')
+        self.duration, self.delay = int.from_bytes(data[35:39], 'big'), data[39]
+        self.offset = self.time - requested + drift
+        ask((3, requested <= t < 2 ** 52), (4, tag(make, derive(make, pair, 3), nonce + data[:40]) == data[40:]),
+            (5, 1 <= self.delay <= 16 and self.duration >= 1 and self.at <= 4096 and self.start <= self.time < 2 ** 52),
+            (6, self.at == 0 or self.at + self.delay <= self.interval(self.time)))
+        self.make, self.latest, self.newest, self.held = make, t, data[9:25], []
+
+    def interval(self, u):
+        return self.first + (u - self.start) // self.duration
+
+    def take(self, t, data):
+        of_kind(data, 3)
+        m = int.from_bytes(data[1:3], 'big')
+        ask((3, self.latest <= t < 2 ** 52), (7, 1 <= m <= 4096),
+            (8, self.interval(t + self.offset) < m + self.delay), (9, data not in self.held), (10, len(self.held) < 32))
+        self.held.append(data)
+        self.latest = t
+        return len(self.held)
+
+    def key(self, t, data):
+        of_kind(data, 4)
+        m = int.from_bytes(data[1:3], 'big')
+        ask((3, self.latest <= t < 2 ** 52), (7, 1 <= m <= 4096), (11, m > self.at),
+            (12, self.interval(t + self.offset) >= m + self.delay),
+            (13, down(self.make, data[3:], m - self.at) == self.newest))
+        steps, self.at, self.newest, self.latest = m - self.at, m, data[3:], t
+        return steps
+
+    def release(self):
+        """interval, number, payload and verdict of the packet that goes out, or None"""
+        known = [p for p in self.held if int.from_bytes(p[1:3], 'big') <= self.at]
+        if not known:
+            return None
+        data = min(known, key=lambda p: p[1:3])
+        self.held.remove(data)
+        m = int.from_bytes(data[1:3], 'big')
+        key = down(self.make, self.newest, self.at - m)
+        right = tag(self.make, derive(self.make, key, 2), data[:-8]) == data[-8:]
+        return m, data[3], data[4:-8] if right else b'', right
+
+
+class Base:
+    """a base over one chain, given from K_0 on"""
+
+    def __init__(self, make, keys, start, duration, delay):
+        self.make, self.keys, self.start, self.duration, self.delay = make, keys, start, duration, delay
+        self.latest, self.last, self.busy, self.made = start, 0, 0, 0
+
+    def interval(self, s):
+        return (s - self.start) // self.duration
+
+    def order(self, s, payload):
+        m, n = self.interval(s), len(self.keys) - 1
+        number = self.made if m == self.busy else 0
+        ask((3, self.latest <= s < 2 ** 52), (16, 1 <= m <= n), (17, len(payload) <= 64), (18, number < 256))
+        self.latest, self.busy, self.made = s, m, number + 1
+        covered = b'\x03' + m.to_bytes(2, 'big') + bytes([number]) + payload
+        return covered + tag(self.make, derive(self.make, self.keys[m], 2), covered)
+
+    def disclose(self, s):
+        m = min(self.interval(s) - self.delay, len(self.keys) - 1)
+        ask((3, self.latest <= s < 2 ** 52), (19, m > self.last))
+        self.latest, self.last = s, m
+        return b'\x04' + m.to_bytes(2, 'big') + self.keys[m]
+
+    def answer(self, s, pair, data):
+        of_kind(data, 1)
+        ask((3, self.latest <= s < 2 ** 52))
+        self.latest = s
+        front = (b'\x02' + s.to_bytes(8, 'big') + self.keys[self.last] + self.last.to_bytes(2, 'big')
+                 + (self.start + self.last * self.duration).to_bytes(8, 'big') + self.duration.to_bytes(4, 'big')
+                 + bytes([self.delay]))
+        return front + tag(self.make, derive(self.make, pair, 3), data[1:] + front)

@@ -1,223 +1,176 @@
-// One order from beginning to end: the base makes it, the carriage holds it, and a key disclosed later proves it.
-ghost use mathlib.Core.Path.{_≡_};
-ghost use Prim.Native.Nat.{_≤_};
-ghost use lib.ListN.{length};
-ghost use Rattle.cipher.specs.Makes.{rc5-make};
-ghost use Rattle.chain.specs.Tag.{tagged};
-ghost use Rattle.chain.specs.Chain.{interval-tag-key};
-ghost use Rattle.rehearse.specs.Orders.{Judged};
+// A whole link in rehearsal: a base and two carriages, with lost keys, a late copy, a damaged order and a forged one.
+mod carriage;
+mod words;
+
+use base::Base;
+use carriage::Carriage;
+use carriage::Clock;
+use carriage::join;
 use chain::down;
-use chain::interval_tag_key;
-use chain::step;
-use chain::tag;
 use cipher::Key;
-use cipher::KeyPartialEq;
 use cipher::Rc5Block;
-use hex::Hex;
-use hex::HexDisplay;
-use packet::Data;
-use packet::Packet;
-use packet::read_data;
-use packet::write;
-use refusal::Refusal;
-use refusal::RefusalDisplay;
-use source::KeySource;
 use source::Pebbled;
 use source::PebbledSource;
 use std::error::AnyError;
+use words::Sent;
+use words::show_refusal;
 
-// The chain has 2^3 keys; the last is chosen, and all others follow from it.
-const BITS: u32 = 3;
+// The chain has 2^4 keys; the last is chosen, and all others follow from it.
+const BITS: u32 = 4;
 
-const COUNT: u16 = 8;
+const COUNT: u32 = 16;
 
 const LAST: Key = Key {
     high: 0x0011223344556677,
     low: 0x8899aabbccddeeff,
 };
+// Interval 0 begins at this time; an interval lasts 100,000; a key is disclosed two intervals after its own.
+const START: u64 = 1_000_000;
 
-const INTERVAL: u16 = 3;
+const DURATION: u32 = 100_000;
 
-#[derive(Clone, Copy)]
-enum Verdict {
-    Accepted,
-    WrongKey,
-    WrongTag,
-}
+const DELAY: u8 = 2;
 
-// The tag of an order, made under the key of its interval over the bytes before the tag.
-fn order_tag(key: Key, covered: &[u8]) -> Result<[u8; 8], Refusal>
-    ensures { λ r. ⌜ r ≡ tagged rc5-make (interval-tag-key rc5-make key) (now (covered .entry)) ⌝ }
-{
-    tag::<Rc5Block>(interval_tag_key::<Rc5Block>(key), covered)
-}
+type Bed = Base<Rc5Block, Pebbled<Rc5Block>, Pebbled<Rc5Block>>;
 
-// Writes an order with its tag, and answers its length.
-fn send(key: Key, payload: &[u8], out: &mut [u8]) -> Result<usize, Refusal> {
-    let none = [0; 8];
-    let draft = Data {
-        interval: INTERVAL,
-        number: 0,
-        payload,
-        tag: &none,
+fn make_bed() -> Result<Bed, AnyError> {
+    let commitment = down::<Rc5Block>(LAST, COUNT);
+    let Ok(first) = Pebbled::<Rc5Block>::make(LAST, BITS) else {
+        return Err("the chain of the orders cannot be made".into());
     };
-    let mut covered = [0; 68];
-    let length = draft.covered(&mut covered)?;
-    let tag = order_tag(key, &covered[0..length])?;
-    let order = Data {
-        interval: INTERVAL,
-        number: 0,
-        payload,
-        tag: &tag,
+    let Ok(second) = Pebbled::<Rc5Block>::make(LAST, BITS) else {
+        return Err("the chain of the keys cannot be made".into());
     };
-    write(&Packet::Data(order), out)
-}
-
-// What a carriage that knows the commitment makes of an order once a key of its interval is disclosed.
-fn judged(commitment: Key, interval: u16, disclosed: Key, order: &[u8], found: [u8; 8]) -> Verdict
-    requires { ⌜ length (now order) ≤ 4096 ⌝ }
-    ensures { λ r. ⌜ Judged commitment interval disclosed (now (order .entry)) found r ⌝ }
-{
-    if down::<Rc5Block>(disclosed, u32::from(interval)) != commitment {
-        return Verdict::WrongKey;
-    }
-    let Ok(right) = order_tag(disclosed, order) else {
-        return Verdict::WrongTag;
-    };
-    if right == found {
-        Verdict::Accepted
-    } else {
-        Verdict::WrongTag
+    match Base::new(first, second, commitment, START, DURATION, DELAY) {
+        Ok(bed) => Ok(bed),
+        Err((_, _, _)) => Err("the base cannot be made".into()),
     }
 }
 
-// What both sides need of the chain: its commitment, and the key of the order's interval.
-#[derive(Clone, Copy)]
-struct Keys {
-    commitment: Key,
-    interval: Key,
-}
-
-// Draws every key of the chain, and prints each with the steps that it took.
-fn draw_keys(rt: &LibcRuntime, source: &mut Pebbled<Rc5Block>) -> Result<Keys, AnyError> {
-    let mut keys = Keys {
-        commitment: LAST,
-        interval: LAST,
-    };
-    println!(
-        rt,
-        "The base draws the {COUNT} RC5 keys of its chain in their order from a pebbled source."
-    )?;
-    for m in 1..=COUNT {
-        let Ok((key, steps)) = source.next() else {
-            return Err("the source has no key left".into());
-        };
-        println!(rt, "  K_{m} {}, steps {steps}", Hex(&key.to_bytes()))?;
-        if m == 1 {
-            keys.commitment = step::<Rc5Block>(key);
+// The base makes an order, and what it wrote is sent.
+fn order(rt: &LibcRuntime, bed: &mut Bed, time: u64, payload: &str) -> Result<Sent, AnyError> {
+    let mut sent = Sent::new();
+    match bed.make(time, payload.as_bytes(), &mut sent.bytes) {
+        Ok(length) => {
+            sent.length = length;
+            println!(rt, "{time} base makes \"{payload}\": {length} bytes")?;
         }
-        if m == INTERVAL {
-            keys.interval = key;
+        Err(refusal) => show_refusal(rt, time, "base makes an order", refusal)?,
+    }
+    Ok(sent)
+}
+
+fn disclose(rt: &LibcRuntime, bed: &mut Bed, time: u64) -> Result<Sent, AnyError> {
+    let mut sent = Sent::new();
+    match bed.disclose(time, &mut sent.bytes) {
+        Ok(length) => {
+            sent.length = length;
+            println!(
+                rt,
+                "{time} base discloses the key of interval {}",
+                sent.interval()
+            )?;
         }
+        Err(refusal) => show_refusal(rt, time, "base discloses a key", refusal)?,
     }
-    println!(
-        rt,
-        "  K_0 {}, one step below K_1, is the commitment that carriages know",
-        Hex(&keys.commitment.to_bytes())
-    )?;
-    Ok(keys)
+    Ok(sent)
 }
 
-// What the carriage makes of the bytes that it held and of a key that was disclosed.
-fn look_at(commitment: Key, disclosed: Key, held: &[u8]) -> Result<Verdict, Refusal> {
-    let order = read_data(held)?;
-    let mut covered = [0; 68];
-    let length = order.covered(&mut covered)?;
-    if length > 68 {
-        return Err(Refusal::TooLong);
-    }
-    let tag = order.tag;
-    Ok(judged(
-        commitment,
-        order.interval,
-        disclosed,
-        &covered[0..length],
-        *tag,
-    ))
-}
-
-// Prints what the carriage makes of an order and a key, and why.
-fn show_verdict(
+// Both carriages hear an order.
+fn both_take(
     rt: &LibcRuntime,
-    commitment: Key,
-    disclosed: Key,
-    held: &[u8],
+    pair: &mut Pair,
+    time: u64,
+    sent: &Sent,
+    what: &str,
 ) -> Result<(), AnyError> {
-    println!(rt, "  order {}", Hex(held))?;
-    println!(rt, "  key   {}", Hex(&disclosed.to_bytes()))?;
-    match look_at(commitment, disclosed, held) {
-        Ok(Verdict::Accepted) => println!(
-            rt,
-            "  {INTERVAL} steps down from the key end on K_0, and the tag is right: accepted"
-        )?,
-        Ok(Verdict::WrongTag) => println!(
-            rt,
-            "  {INTERVAL} steps down from the key end on K_0, but the tag is wrong: turned down"
-        )?,
-        Ok(Verdict::WrongKey) => println!(
-            rt,
-            "  {INTERVAL} steps down from the key do not end on K_0: turned down"
-        )?,
-        Err(refusal) => show_refusal(rt, refusal)?,
-    }
+    pair.a.hear_order(rt, time, sent, what)?;
+    pair.b.hear_order(rt, time, sent, what)
+}
+
+#[derive(Drop)]
+struct Pair {
+    a: Carriage,
+    b: Carriage,
+}
+
+// The orders of three intervals, while the keys of intervals 2 to 4 are lost.
+fn orders(rt: &LibcRuntime, bed: &mut Bed, pair: &mut Pair) -> Result<(), AnyError> {
+    let first = order(rt, bed, 1_320_000, "racking +2")?;
+    both_take(rt, pair, 1_320_000, &first, "the order")?;
+    let second = order(rt, bed, 1_330_000, "confirm course 41")?;
+    both_take(rt, pair, 1_330_000, &second, "the order")?;
+    disclose(rt, bed, 1_400_500)?;
+    println!(rt, "1400500 the key is lost on the way to both")?;
+    let turn = order(rt, bed, 1_420_000, "reverse")?;
+    both_take(rt, pair, 1_420_000, &turn, "the order")?;
+    disclose(rt, bed, 1_500_500)?;
+    println!(rt, "1500500 the key is lost on the way to both")?;
+    both_take(
+        rt,
+        pair,
+        1_510_000,
+        &second,
+        "a late copy of \"confirm course 41\"",
+    )?;
+    let last = order(rt, bed, 1_520_000, "racking -1")?;
+    both_take(
+        rt,
+        pair,
+        1_520_000,
+        &last.damaged(),
+        "a damaged copy of the order",
+    )?;
+    both_take(rt, pair, 1_520_000, &last, "the order")?;
+    both_take(rt, pair, 1_530_000, &forged(), "a forged order")?;
+    both_take(rt, pair, 1_540_000, &turn, "\"reverse\" once more")?;
+    disclose(rt, bed, 1_600_500)?;
+    println!(rt, "1600500 the key is lost on the way to both")?;
     Ok(())
 }
 
-fn show_refusal(rt: &LibcRuntime, refusal: Refusal) -> Result<(), AnyError> {
-    let number = refusal.number();
-    println!(rt, "  refused {number}: {refusal}")?;
-    Ok(())
-}
-
-fn rehearse(rt: &LibcRuntime, keys: Keys, order: &mut [u8]) -> Result<(), AnyError> {
-    println!(
-        rt,
-        "The base orders \"racking +2\" in interval {INTERVAL}, and the carriage holds it."
-    )?;
-    println!(rt, "  order {}", Hex(order))?;
-    println!(
-        rt,
-        "The base discloses K_{INTERVAL}, and the carriage looks at the order again."
-    )?;
-    let key = keys.interval;
-    show_verdict(rt, keys.commitment, key, order)?;
-    println!(rt, "The same with another key.")?;
-    let wrong = Key {
-        high: key.high,
-        low: key.low ^ 1,
-    };
-    show_verdict(rt, keys.commitment, wrong, order)?;
-    println!(
-        rt,
-        "The same with one byte of the order changed, +3 for +2."
-    )?;
-    if order.len() > 13 {
-        order[13] = b'3';
-    }
-    show_verdict(rt, keys.commitment, key, order)
+// An order of interval 5 that the base never made.
+fn forged() -> Sent {
+    let mut sent = Sent::new();
+    sent.bytes[0] = 3;
+    sent.bytes[2] = 5;
+    sent.bytes[4] = b'!';
+    sent.length = 13;
+    sent
 }
 
 fn run(rt: &LibcRuntime) -> Result<(), AnyError> {
-    let mut source = match Pebbled::<Rc5Block>::make(LAST, BITS) {
-        Ok(source) => source,
-        Err(refusal) => return show_refusal(rt, refusal),
+    let heap = rt.alloc();
+    let mut bed = make_bed()?;
+    println!(
+        rt,
+        "The base starts at {START}; an interval lasts {DURATION}; keys are disclosed {DELAY} intervals later."
+    )?;
+    let behind = Clock {
+        ahead: 0,
+        behind: 300_000,
     };
-    let keys = draw_keys(rt, &mut source)?;
-    let mut sent = [0; 76];
-    match send(keys.interval, b"racking +2", &mut sent) {
-        Ok(length) if length <= 76 => rehearse(rt, keys, &mut sent[0..length]),
-        Ok(_) => Err("the order is longer than a packet may be".into()),
-        Err(refusal) => show_refusal(rt, refusal),
+    let mut a = join(rt, heap, &mut bed, "carriage A", behind, 1_050_000)?;
+    let early = disclose(rt, &mut bed, 1_300_500)?;
+    a.hear_key(rt, heap, 1_300_600, &early)?;
+    let ahead = Clock {
+        ahead: 5_000_000,
+        behind: 0,
+    };
+    let b = join(rt, heap, &mut bed, "carriage B", ahead, 1_310_000)?;
+    let mut pair = Pair { a, b };
+    orders(rt, &mut bed, &mut pair)?;
+    let key = disclose(rt, &mut bed, 1_700_500)?;
+    pair.a.hear_key(rt, heap, 1_700_600, &key)?;
+    pair.b.hear_key(rt, heap, 1_700_600, &key)?;
+    pair.a.hear_key(rt, heap, 1_700_700, &early)?;
+    pair.a.show_log(rt)?;
+    pair.b.show_log(rt)?;
+    if pair.a.same_log(&pair.b) {
+        println!(rt, "Both released lists are equal.")?;
+        Ok(())
+    } else {
+        Err("the released lists differ".into())
     }
 }
 

@@ -1,0 +1,10 @@
+pub mod Floors
+pub mod Tables
+pub mod Firsts
+pub mod Deeds
+pub mod Outs
+pub mod Coverings
+pub mod Releases
+pub mod Schedules
+pub mod Requests
+pub mod Joining
