@@ -28,12 +28,6 @@ use Rattle.node.proofs.Deeds.{answer-of, then-of}
 
 -- where no two are equal, all but one packet are all but its place
 module _ (p : Data) where
-  same : Data → Bool
-  same q = same-packet p q
-
-  other : Data → Bool
-  other q = not (same-packet p q)
-
   self-same : same-packet p p ≡ true
   self-same = packet-decides p p .1 refl
 

@@ -2,7 +2,7 @@
 use mathlib.Core.Path.{_≡_}
 use mathlib.Core.List.{List, [], _∷_, map}
 use Prim.Native.Nat.{ℕ, _<_}
-use lib.ListN.{length, getD, take}
+use lib.ListN.{length, getD, replicate, take}
 use Rattle.std.specs.declared.option.Option.{Option}
 use Rattle.std.specs.declared.option.Option.the-variants.{Some, None}
 use Rattle.packet.specs.Kinds.{Data}
@@ -12,6 +12,10 @@ use Rattle.node.specs.declared.table.Table.{Table}
 
 abbrev pub slot-said : Slot → Data
 slot-said s = record { interval = s .interval; number = s .number; payload = take (s .length) (s .payload); tag = s .tag }
+
+-- what a free place says
+abbrev pub nothing : Data
+nothing = record { interval = 0; number = 0; payload = []; tag = replicate 8 0 }
 
 -- the packets held, in the order of taking
 abbrev pub held : Table → List Data

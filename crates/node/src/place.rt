@@ -7,14 +7,16 @@ ghost use Rattle.packet.specs.Kinds.{data-said};
 ghost use Rattle.packet.specs.Writing.{filled};
 ghost use Rattle.link.specs.Receiver.{out-of, same-packet};
 ghost use Rattle.node.specs.Answers.{released-says, written};
-ghost use Rattle.node.specs.Places.{slot-said};
+ghost use Rattle.node.specs.Places.{nothing, slot-said};
 use crate::released::Released;
 use crate::slot::Slot;
 use packet::Data;
 use packet::MAX_PAYLOAD;
 
 impl Slot {
-    pub(crate) fn new() -> Slot {
+    pub(crate) fn new() -> Slot
+        ensures { λ r. ⌜ slot-said r ≡ nothing ⌝ }
+    {
         Slot {
             interval: 0,
             number: 0,
@@ -37,7 +39,9 @@ impl Slot {
     }
 
     // Nothing is left of the packet.
-    pub(crate) fn free(&mut self) {
+    pub(crate) fn free(&mut self)
+        ensures { λ _. ⌜ slot-said (now (self .exit)) ≡ nothing ⌝ }
+    {
         *self = Slot::new();
     }
 
