@@ -1,12 +1,11 @@
 -- What a disclosure comes to.
 use mathlib.Core.Path.{_≡_, sym, ap, subst, _∙_}
-use mathlib.Core.Bool.{true}
 use mathlib.Core.List.{List, [], _∷_}
 use mathlib.Core.Logic.{inl, inr}
-use Prim.Native.Nat.{ℕ, suc, _+_, _-_, _*_, _^_, _≤_, _<_, min}
+use Prim.Native.Nat.{ℕ, suc, _-_, _^_, _≤_, _<_, min}
 use native.Mathlib.Omega.{arith}
 use lib.Dec.{leb, ltb}
-use lib.IntN.{ℤ, pos, negsuc, natAbs, _-ℤ_}
+use lib.IntN.{pos, negsuc, natAbs, _-ℤ_}
 use lib.Signed.{ltZ}
 use lib.ListN.{length}
 use Rattle.std.specs.Numbers.{minZ}
@@ -24,7 +23,7 @@ use Rattle.packet.specs.Kinds.{a-key}
 use Rattle.packet.specs.Layouts.{disclosure-bytes}
 use Rattle.packet.specs.Writing.{filled}
 use Rattle.source.specs.declared.key_source.KeySource.{Ghosts}
-use Rattle.link.specs.Base.{Base, base-interval, base-questions, base-then, disclosure, key-due, reply, to-disclose}
+use Rattle.link.specs.Base.{Base, base-questions, base-then, disclosure, key-due, reply, to-disclose}
 use Rattle.link.specs.Questions.{Question, first-no}
 use Rattle.link.specs.Reception.{in-order}
 use Rattle.link.proofs.Asking.{all-yes}

@@ -1,17 +1,13 @@
 -- What the making of a base comes to.
-use mathlib.Core.Bool.{Bool, true, false, _&&_}
-use mathlib.Core.List.{[], _∷_}
+use mathlib.Core.Bool.{true, false, _&&_}
 use mathlib.Core.Path.{_≡_, sym}
 use Prim.Native.Nat.{ℕ}
 use lib.Dec.{eqb}
 use Rattle.std.proofs.shelf.Tests.{and-parts, eqb-true}
-use Rattle.std.specs.declared.result.Result.{Result}
 use Rattle.std.specs.declared.result.Result.the-variants.{Ok, Err}
-use Rattle.refusal.specs.declared.Refusal.{Refusal}
 use Rattle.refusal.specs.declared.Refusal.the-variants.{OutOfLimits}
 use Rattle.cipher.specs.declared.key.Key.{Key}
-use Rattle.link.specs.Base.{Base, Setup, Supply, a-pair, found, in-limits, setup-of, unused}
-use Rattle.link.specs.Questions.{first-no, unless}
+use Rattle.link.specs.Base.{Setup, Supply, a-pair, found, in-limits, setup-of, unused}
 
 module _ (first second : Supply) (commitment : Key) (start duration delay : ℕ) where
   abbrev setup : Setup

@@ -1,17 +1,17 @@
 -- What a make comes to.
 use mathlib.Core.Path.{_≡_, sym, ap, subst, _∙_}
-use mathlib.Core.Bool.{true, cond, _&&_}
+use mathlib.Core.Bool.{_&&_}
 use mathlib.Core.List.{List, [], _∷_}
-use Prim.Native.Nat.{ℕ, _+_, _-_, _*_, _/_, _^_, _≤_, _<_}
+use Prim.Native.Nat.{ℕ, _+_, _^_, _≤_, _<_}
 use native.Mathlib.Omega.{arith}
-use lib.Dec.{eqb, leb, ltb}
+use lib.Dec.{leb, ltb}
 use lib.IntN.{ℤ, pos, natAbs}
 use lib.Signed.{leZ}
 use lib.ListN.{length}
 use Rattle.std.specs.declared.option.Option.the-variants.{Some, None}
 use Rattle.std.specs.declared.result.Result.{Result}
 use Rattle.std.specs.declared.result.Result.the-variants.{Ok, Err}
-use Rattle.std.proofs.shelf.Tests.{and-parts, leb-true, ltb-true, ne-eqb}
+use Rattle.std.proofs.shelf.Tests.{and-parts, leb-true, ltb-true}
 use Rattle.refusal.specs.declared.Refusal.{Refusal}
 use Rattle.refusal.specs.declared.Refusal.the-variants.{BufferTooShort, IntervalFull, NoSuchInterval, ReadingOutOfOrder, TooLong}
 use Rattle.cipher.specs.Blocks.{Make}
@@ -21,7 +21,7 @@ use Rattle.packet.specs.Layouts.{data-bytes}
 use Rattle.packet.specs.Writing.{filled}
 use Rattle.source.specs.declared.key_source.KeySource.{Ghosts}
 use Rattle.link.specs.Base.{Base, base-interval, base-questions, base-then, made-in, order, reply, to-make}
-use Rattle.link.specs.Questions.{Question, first-no, unless}
+use Rattle.link.specs.Questions.{Question, first-no}
 use Rattle.link.specs.Reception.{in-order}
 use Rattle.link.proofs.Asking.{all-yes}
 use Rattle.base.specs.Asked.{asked, data-under, made-at, make-questions, numbers, plain-interval}

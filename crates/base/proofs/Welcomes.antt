@@ -1,8 +1,8 @@
 -- What an answer to a request comes to.
-use mathlib.Core.Path.{_≡_, refl, sym, ap, subst, _∙_}
+use mathlib.Core.Path.{_≡_, sym, ap, subst, _∙_}
 use mathlib.Core.Bool.{Bool, true, false, cond, _&&_}
-use mathlib.Core.List.{List, [], _∷_, _++_}
-use Prim.Native.Nat.{ℕ, _+_, _*_, _≤_}
+use mathlib.Core.List.{List, _++_}
+use Prim.Native.Nat.{ℕ, _+_, _*_}
 use native.Mathlib.Omega.{arith}
 use lib.Dec.{eqb, leb}
 use lib.ListN.{length}
@@ -10,19 +10,17 @@ use Rattle.std.specs.declared.option.Option.the-variants.{Some, None}
 use Rattle.std.specs.declared.result.Result.{Result}
 use Rattle.std.specs.declared.result.Result.the-variants.{Ok, Err}
 use Rattle.refusal.specs.declared.Refusal.{Refusal}
-use Rattle.refusal.specs.declared.Refusal.the-variants.{NotThisKind, ReadingOutOfOrder, BufferTooShort, WrongLength}
+use Rattle.refusal.specs.declared.Refusal.the-variants.{NotThisKind, WrongLength}
 use Rattle.cipher.specs.Blocks.{Make}
-use Rattle.cipher.specs.Keys.{key-bytes}
 use Rattle.cipher.specs.declared.key.Key.{Key}
 use Rattle.packet.specs.Kinds.{Request, an-answer}
 use Rattle.packet.specs.Layouts.{answer-bytes}
 use Rattle.packet.specs.Reading.{is-kind, read-request, request-of}
 use Rattle.packet.specs.Writing.{filled}
 use Rattle.source.specs.declared.key_source.KeySource.{Ghosts}
-use Rattle.link.specs.Base.{Base, base-questions, base-then, reply, to-answer, welcome, written}
+use Rattle.link.specs.Base.{Base, base-questions, base-then, reply, to-answer, welcome}
 use Rattle.link.specs.Questions.{Question, first-no}
 use Rattle.link.specs.Receiver.{reading}
-use Rattle.link.specs.Reception.{in-order}
 use Rattle.link.proofs.Asking.{all-yes}
 use Rattle.base.specs.Asked.{answer-questions, answer-under, answer-untagged, asked, numbers}
 use Rattle.base.specs.Keys.{Serves}

@@ -112,7 +112,7 @@ impl<B: Block, M: KeySource, D: KeySource> Base<B, M, D> {
         out: &mut [u8],
     ) -> Result<usize, Refusal>
         ensures rules { λ r. ⌜ ((x : AnyBase) → Means M·KeySource D·KeySource (now (self .entry)) x → Called (B·Block .make) M·KeySource D·KeySource x (to-answer reading pair (now (request .entry)) (length (now (out .entry)))) r (now (out .entry)) (now (out .exit)) (now (self .exit))) ⌝ }
-        ensures refused { λ r. ⌜ Untouched r (now (self .entry)) (now (self .exit)) ⌝ }
+        ensures refused { λ r. ⌜ Untouched r (now (self .entry)) (now (self .exit)) × Untouched r (now (out .entry)) (now (out .exit)) ⌝ }
     {
         let request = read_request(request)?;
         self.may_answer(reading, out.len())?;

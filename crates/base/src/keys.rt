@@ -54,7 +54,7 @@ impl<B: Block, M: KeySource, D: KeySource> Base<B, M, D> {
     // Writes the newest key that is due into the start of the buffer, and answers its length.
     pub fn disclose(&mut self, reading: u64, out: &mut [u8]) -> Result<usize, Refusal>
         ensures rules { λ r. ⌜ ((x : AnyBase) → Means M·KeySource D·KeySource (now (self .entry)) x → Called (B·Block .make) M·KeySource D·KeySource x (to-disclose reading (length (now (out .entry)))) r (now (out .entry)) (now (out .exit)) (now (self .exit))) ⌝ }
-        ensures refused { λ r. ⌜ Untouched r (now (self .entry)) (now (self .exit)) ⌝ }
+        ensures refused { λ r. ⌜ Untouched r (now (self .entry)) (now (self .exit)) × Untouched r (now (out .entry)) (now (out .exit)) ⌝ }
     {
         let interval = self.key_interval(reading, out.len())?;
         self.disclosing.draw_to(interval);

@@ -1,6 +1,5 @@
 // How a base makes its orders.
 ghost use mathlib.Core.Path.{_≡_};
-ghost use mathlib.Core.List.{[]};
 ghost use Prim.Native.Nat.{_+_, _-_, _/_, _≤_};
 ghost use lib.ListN.{length};
 ghost use Rattle.std.specs.declared.result.Result.the-variants.{Ok, Err};
@@ -106,7 +105,7 @@ impl<B: Block, M: KeySource, D: KeySource> Base<B, M, D> {
     // Writes an order with the payload into the start of the buffer, and answers its length.
     pub fn make(&mut self, reading: u64, payload: &[u8], out: &mut [u8]) -> Result<usize, Refusal>
         ensures rules { λ r. ⌜ ((x : AnyBase) → Means M·KeySource D·KeySource (now (self .entry)) x → Called (B·Block .make) M·KeySource D·KeySource x (to-make reading (now (payload .entry)) (length (now (out .entry)))) r (now (out .entry)) (now (out .exit)) (now (self .exit))) ⌝ }
-        ensures refused { λ r. ⌜ Untouched r (now (self .entry)) (now (self .exit)) ⌝ }
+        ensures refused { λ r. ⌜ Untouched r (now (self .entry)) (now (self .exit)) × Untouched r (now (out .entry)) (now (out .exit)) ⌝ }
     {
         let interval = self.order_interval(reading, payload, out.len())?;
         let number = self.made_in(interval);

@@ -19,7 +19,7 @@ returns-in-Break-request g c =
     record {
       rules = λ x means.
           refused-call (g .M·KeySource) (g .D·KeySource) b x means (g .B·Block .make) (to-answer (c .args .reading) (c .args .pair) bytes (length out)) e (c .from-residual .result) out (unread x (c .args .reading) (c .args .pair) bytes (length out) e (c .in-Break-request .ensures tt)) is;
-      refused = untouched (c .from-residual .result) e b is;
+      refused = (untouched (c .from-residual .result) e b is, untouched (c .from-residual .result) e out is);
     }
 
 pub returns-in-Break-may-answer : need.returns-in-Break-may-answer
@@ -34,7 +34,7 @@ returns-in-Break-may-answer g c =
     record {
       rules = λ x means.
           refused-call (g .M·KeySource) (g .D·KeySource) b x means (g .B·Block .make) (to-answer (c .args .reading) (c .args .pair) bytes (length out)) e r out (unanswered (g .B·Block .make) (g .M·KeySource) (g .D·KeySource) b x means (c .args .reading) (c .args .pair) bytes (length out) (request-said (c .in-Continue-request .request)) e (c .in-Continue-request .ensures tt) (c .in-Break-may-answer .ensures tt)) is;
-      refused = untouched r e b is;
+      refused = (untouched r e b is, untouched r e out is);
     }
 
 pub returns : need.returns
@@ -45,5 +45,5 @@ returns g c =
     record {
       rules = λ x means.
           answered-call (g .B·Block .make) (g .M·KeySource) (g .D·KeySource) b x means (c .args .reading) (c .args .pair) bytes out (c .write-answer .last .out) (request-said (c .in-Continue-request .request)) (c .write-answer .result) _ (c .in-Continue-request .ensures tt) (c .in-Continue-may-answer .ensures tt) refl refl refl refl refl refl refl (c .write-answer .ensures .value) (c .write-answer .ensures .after);
-      refused = done-with (c .write-answer .result) 48 b _ (c .write-answer .ensures .value);
+      refused = (done-with (c .write-answer .result) 48 b _ (c .write-answer .ensures .value), done-with (c .write-answer .result) 48 out _ (c .write-answer .ensures .value));
     }

@@ -17,7 +17,7 @@ returns-in-Break-interval g c =
     record {
       rules = λ x means.
           refused-call (g .M·KeySource) (g .D·KeySource) b x means (g .B·Block .make) (to-disclose (c .args .reading) (length out)) e (c .from-residual .result) out (undisclosed (g .B·Block .make) (g .M·KeySource) (g .D·KeySource) b x means (c .args .reading) (length out) e (c .in-Break-interval .ensures tt)) is;
-      refused = untouched (c .from-residual .result) e b is;
+      refused = (untouched (c .from-residual .result) e b is, untouched (c .from-residual .result) e out is);
     }
 
 pub returns : need.returns
@@ -27,5 +27,5 @@ returns g c =
     record {
       rules = λ x means.
           disclosed-call (g .B·Block .make) (g .M·KeySource) (g .D·KeySource) b x means (c .args .reading) (c .in-Continue-interval .interval) out (c .write-key .last .out) (c .write-key .result) _ (c .in-Continue-interval .ensures tt) (c .draw-to .ensures .given) (c .draw-to .ensures .serves) refl refl refl refl refl refl (c .write-key .ensures .value) (c .write-key .ensures .after);
-      refused = done-with (c .write-key .result) 19 b _ (c .write-key .ensures .value);
+      refused = (done-with (c .write-key .result) 19 b _ (c .write-key .ensures .value), done-with (c .write-key .result) 19 out _ (c .write-key .ensures .value));
     }

@@ -19,7 +19,7 @@ returns-in-Break-interval g c =
     record {
       rules = λ x means.
           refused-call (g .M·KeySource) (g .D·KeySource) b x means (g .B·Block .make) (to-make (c .args .reading) payload (length out)) e (c .from-residual .result) out (unmade (g .M·KeySource) (g .D·KeySource) b x means (c .args .reading) payload (length out) e (c .in-Break-interval .ensures tt)) is;
-      refused = untouched (c .from-residual .result) e b is;
+      refused = (untouched (c .from-residual .result) e b is, untouched (c .from-residual .result) e out is);
     }
 
 pub returns : need.returns
@@ -30,5 +30,5 @@ returns g c =
     record {
       rules = λ x means.
           made-call (g .B·Block .make) (g .M·KeySource) (g .D·KeySource) b x means (c .args .reading) (c .in-Continue-interval .interval) (c .made-in-number .result) payload out (c .write-order .last .out) (c .write-order .result) _ (c .in-Continue-interval .ensures tt) (c .made-in-number .ensures) (c .draw-to .ensures .given) (c .draw-to .ensures .serves) refl refl refl refl refl refl (c .write-order .ensures .value) (c .write-order .ensures .after);
-      refused = done-with (c .write-order .result) (12 + length payload) b _ (c .write-order .ensures .value);
+      refused = (done-with (c .write-order .result) (12 + length payload) b _ (c .write-order .ensures .value), done-with (c .write-order .result) (12 + length payload) out _ (c .write-order .ensures .value));
     }

@@ -1,4 +1,4 @@
-use mathlib.Core.Path.{_≡_, refl, sym}
+use mathlib.Core.Path.{refl, sym}
 use native.Mathlib.Omega.{arith}
 use Rattle.base.specs.Meaning.{supply}
 use Rattle.base.proofs.Founds.{founded, pair-of, turned-down}
