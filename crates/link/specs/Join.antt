@@ -58,15 +58,17 @@ abbrev pub key-was-due : Answer → Bool
 key-was-due a =
     eqb (a .interval) 0 || leZ (pos (a .interval + a .delay)) (interval-at (schedule-of a) (pos (a .time)))
 
-abbrev pub finish-questions : Make → Node → ℕ → List ℕ → List Question
-finish-questions cipher node t bytes =
-    let a : Answer = answer-of bytes in
-    reading (read-answer bytes)
-    ++ (ReadingOutOfOrder, in-order (node .requested) t)
+-- the questions of a finish, once the answer is read
+abbrev pub join-questions : Make → Node → ℕ → Answer → List Question
+join-questions cipher node t a =
+    (ReadingOutOfOrder, in-order (node .requested) t)
     ∷ (WrongAnswerTag, sameBytes (a .tag) (answer-tag cipher (node .pair) (node .nonce) a))
     ∷ (BadSchedule, schedule-fits a)
     ∷ (CommitmentNotDue, key-was-due a)
     ∷ []
+
+abbrev pub finish-questions : Make → Node → ℕ → List ℕ → List Question
+finish-questions cipher node t bytes = reading (read-answer bytes) ++ join-questions cipher node t (answer-of bytes)
 
 -- the receiver that an answer makes of a node at a reading
 abbrev pub joined : Node → ℕ → Answer → Receiver

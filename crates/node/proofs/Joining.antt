@@ -20,11 +20,11 @@ use Rattle.link.specs.Questions.{first-no, unless}
 use Rattle.link.specs.Clock.{Clock}
 use Rattle.link.specs.Reception.{Sound}
 use Rattle.link.specs.Receiver.{Receiver, world, reading}
-use Rattle.link.specs.Join.{Node, schedule-fits, finish-questions, joined, finish}
+use Rattle.link.specs.Join.{join-questions, Node, schedule-fits, finish-questions, joined, finish}
 use Rattle.link.proofs.Asking.{Yes, all-yes, all-behind}
 use Rattle.link.proofs.Joins.{finish-sound}
 use Rattle.link.proofs.Theorem.{link-stands}
-use Rattle.node.specs.Nodes.{join-questions, Ends-well}
+use Rattle.node.specs.Nodes.{Ends-well}
 use Rattle.node.proofs.Deeds.{read-ok}
 
 -- an answer, or the refusal of the first no

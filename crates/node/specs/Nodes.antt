@@ -1,23 +1,19 @@
 -- What a node that asks to join means, and what its calls say.
 use mathlib.Core.Path.{_≡_}
 use mathlib.Core.Bool.{Bool, _&&_}
-use mathlib.Core.List.{List, [], _∷_}
+use mathlib.Core.List.{List}
 use Prim.Native.Nat.{ℕ}
 use lib.Dec.{leb}
-use Rattle.std.specs.shelf.Text.{sameBytes}
 use Rattle.std.specs.declared.result.Result.{Result}
 use Rattle.std.specs.declared.result.Result.the-variants.{Ok, Err}
 use Rattle.refusal.specs.declared.Refusal.{Refusal}
-use Rattle.refusal.specs.declared.Refusal.the-variants.{ReadingOutOfOrder, WrongAnswerTag, BadSchedule, CommitmentNotDue}
 use Rattle.cipher.specs.Blocks.{Make}
 use Rattle.cipher.specs.declared.key.Key.{Key}
 use Rattle.packet.specs.Kinds.{Answer, Packet}
 use Rattle.packet.specs.Layouts.{answer-bytes, packet-bytes, packet-length}
 use Rattle.packet.specs.Writing.{filled}
-use Rattle.link.specs.Questions.{Question}
-use Rattle.link.specs.Reception.{in-order}
 use Rattle.link.specs.Receiver.{Receiver}
-use Rattle.link.specs.Join.{Node, answer-tag, schedule-fits, key-was-due}
+use Rattle.link.specs.Join.{Node}
 use Rattle.link.specs.Sender.{Sender, Answered}
 use Rattle.link.specs.Histories.{Every-history}
 use Rattle.node.specs.declared.requesting as requesting
@@ -44,15 +40,6 @@ leaves (Err refusal) buffer = buffer
 -- the first part of what an answer's schedule has to fit
 abbrev pub rhythm-fits : Answer → Bool
 rhythm-fits a = leb 1 (a .delay) && leb (a .delay) 16 && leb 1 (a .duration)
-
--- the questions of a finish, once the answer is read
-abbrev pub join-questions : Make → Node → ℕ → Answer → List Question
-join-questions cipher node t a =
-    (ReadingOutOfOrder, in-order (node .requested) t)
-    ∷ (WrongAnswerTag, sameBytes (a .tag) (answer-tag cipher (node .pair) (node .nonce) a))
-    ∷ (BadSchedule, schedule-fits a)
-    ∷ (CommitmentNotDue, key-was-due a)
-    ∷ []
 
 -- where some run of some sender wrote these bytes as an answer, every history from the receiver ends well
 abbrev pub Ends-well : Make → List ℕ → Receiver → Type 0
