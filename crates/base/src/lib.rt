@@ -1,4 +1,7 @@
 // The base: it makes the orders of each interval, discloses the keys later, and answers who asks to join.
+
+#![tactic(auto)]
+
 mod clock;
 mod drawing;
 mod founding;

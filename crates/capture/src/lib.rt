@@ -1,4 +1,7 @@
 // Captures in the classic pcap format: their header and their records, read and written.
+
+#![tactic(auto)]
+
 mod fields;
 mod forms;
 mod header;

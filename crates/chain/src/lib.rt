@@ -1,4 +1,7 @@
 // Tags of messages, keys derived from keys, and steps down the one-way chain, over any block cipher.
+
+#![tactic(auto)]
+
 mod derivation;
 mod mac;
 

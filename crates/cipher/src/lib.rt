@@ -1,4 +1,7 @@
 // Keys of 16 bytes, the interface of a block cipher, and two makes of it: RC5-32/12/16 and the adding block.
+
+#![tactic(auto)]
+
 mod adding;
 mod block;
 mod key;

@@ -1,4 +1,7 @@
 // Replays a capture from standard input with the pair's key from pair.key, and tells in words what came of each record.
+
+#![tactic(auto)]
+
 mod heard;
 mod kind;
 mod out;

@@ -1,4 +1,7 @@
 // Bytes as text that people read: as hexadecimal text, or in quotes where they are text themselves.
+
+#![tactic(auto)]
+
 ghost use Rattle.std.specs.Prelude.{◌≡◌, IfOk, vec_items};
 ghost use Rattle.std.specs.Option.{option_map};
 ghost use Rattle.hex.specs.Text.{byte_of, bytes_of};

@@ -1,4 +1,7 @@
 // What the programs are given and what they tell: the pair's key, a capture, faults, and where in a capture something is.
+
+#![tactic(auto)]
+
 mod fault;
 mod place;
 mod reading;

@@ -1,4 +1,7 @@
 // The rules of the link as definitions, and the theorem over every history. Node and base promise these definitions.
+
+#![tactic(auto)]
+
 ghost use Rattle.std.specs.Prelude.{◌≡◌};
 ghost use Rattle.link.specs.Histories.{LinkStands};
 ghost use Rattle.link.specs.Sender.{AnswersPass, KeysInTime};

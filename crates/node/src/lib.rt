@@ -1,4 +1,7 @@
 // The joining node and the receiver: what they ask of each packet, and the orders that they let out.
+
+#![tactic(auto)]
+
 mod clock;
 mod holding;
 mod place;

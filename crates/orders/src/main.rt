@@ -1,4 +1,7 @@
 // Shows the orders of a capture from standard input, as replay writes it: a line for each, and how many there are.
+
+#![tactic(auto)]
+
 use capture::{Record, Records};
 use hex::Readable;
 use inputs::{Fault, Time, Unread, standard_input, tell};

@@ -1,4 +1,7 @@
 // The four kinds of packet: read and written, each the inverse of the other.
+
+#![tactic(auto)]
+
 mod fields;
 mod kinds;
 mod reading;

@@ -1,4 +1,7 @@
 // Replay of a capture: the node's part in it record by record, and the orders that come out.
+
+#![tactic(auto)]
+
 mod counts;
 mod hearing;
 mod opening;

@@ -1,4 +1,7 @@
 // The refusals of the carriage link: one named case for each question that a call can answer with no.
+
+#![tactic(auto)]
+
 ghost use Rattle.std.specs.Prelude.{◌≡◌};
 ghost use Rattle.refusal.specs.Number.{number_of};
 

@@ -1,4 +1,7 @@
 // A whole link in rehearsal: a base and two carriages, with lost keys, a late copy, a damaged order and a forged one.
+
+#![tactic(auto)]
+
 mod carriage;
 mod options;
 mod recording;

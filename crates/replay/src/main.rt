@@ -1,4 +1,7 @@
 // Replays a capture from standard input with the pair's key from pair.key, and writes the proved orders as a capture.
+
+#![tactic(auto)]
+
 use inputs::{Fault, key_file, key_of, standard_input, tell};
 use playback::{MAX_CAPTURE, replay};
 use std::io::Write;

@@ -1,4 +1,7 @@
 // Known values of the definitions that every contract cites, computed by the checker.
+
+#![tactic(auto)]
+
 ghost use Rattle.samples.specs.Table.{Table};
 
 #[derive(Clone, Copy)]

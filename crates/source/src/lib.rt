@@ -1,4 +1,7 @@
 // Key sources: where a base draws the keys of its chain from, in their order.
+
+#![tactic(auto)]
+
 mod key_source;
 mod pebbled;
 mod table;

@@ -1,4 +1,7 @@
 // Reads cases from standard input, one a line, and prints each with its value, and whether that is the one expected.
+
+#![tactic(auto)]
+
 mod answer;
 mod case;
 mod fault;
