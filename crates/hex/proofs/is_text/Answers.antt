@@ -14,13 +14,13 @@ none_left : (xs : List ℕ) (i : ℕ) → length xs ≤ i → all_plain (drop i 
 unfolding all_plain
 none_left xs i h = ap all_plain (drop_of_length-le xs h)
 
-pub returns-then-not-is-plain : goal.returns-then-not-is-plain
-returns-then-not-is-plain c =
-    looked c.args.bytes.now c.loop-byte.byte-index false c.loop-byte-test.true c.if-not-is-plain.ensures c.loop-byte.invariant
+pub returns-then-not-is_plain : goal.returns-then-not-is_plain
+returns-then-not-is_plain c =
+    looked c.args.bytes.now c.loop-byte.byte-index false c.loop-byte-test.true c.if-not-is_plain.ensures c.loop-byte.invariant
 
 pub loop-byte-preserved : goal.loop-byte-preserved
 loop-byte-preserved c =
-    looked c.args.bytes.now c.loop-byte.byte-index true c.loop-byte-test.true c.if-not-is-plain.ensures c.loop-byte.invariant
+    looked c.args.bytes.now c.loop-byte.byte-index true c.loop-byte-test.true c.if-not-is_plain.ensures c.loop-byte.invariant
 
 pub returns : goal.returns
 returns c = sym (none_left c.args.bytes.now c.loop-byte.byte-index (omega arith)) ∙ c.loop-byte.invariant

@@ -4,31 +4,31 @@ use Rattle.hex.specs.Text.{byte_of, bytes_of, with_byte}
 use Rattle.hex.proofs.Steps.{after, after_more, after_none, bytes_next, bytes_odd}
 use Rattle.hex.proofs.parse.Goals as goal
 
-pub returns-in-default : goal.returns-in-default
-returns-in-default c =
+pub returns-in_default : goal.returns-in_default
+returns-in_default c =
     let bs = vec_items c.loop-rest.bytes in
     let rest = c.loop-rest.rest.now in
-    let none = bytes_next rest (omega arith) ∙ ap (λ o. with_byte o (bytes_of (drop 2 rest))) (sym c.byte.ensures ∙ c.in-default.is) in
-    sym (after_none bs (bytes_of (drop 2 rest))) ∙ ap (after bs) (sym none) ∙ c.loop-rest.invariant ∙ ap bytes_of c.as-bytes-rest.ensures.value
+    let none = bytes_next rest (omega arith) ∙ ap (λ o. with_byte o (bytes_of (drop 2 rest))) (sym c.byte.ensures ∙ c.in_default.is) in
+    sym (after_none bs (bytes_of (drop 2 rest))) ∙ ap (after bs) (sym none) ∙ c.loop-rest.invariant ∙ ap bytes_of c.as_bytes-rest.ensures.value
 
 pub loop-rest-preserved : goal.loop-rest-preserved
 loop-rest-preserved c =
     let bs = vec_items c.loop-rest.bytes in
     let rest = c.loop-rest.rest.now in
-    let pushed = c.in-ok-push.ensures.items in
+    let pushed = c.in_ok-push.ensures.items in
     let next = bytes_next rest (omega arith) ∙ ap (λ o. with_byte o (bytes_of (drop 2 rest))) (sym c.byte.ensures ∙ c.in-Some.is) in
     (λ i. after (pushed i) (bytes_of (take_rest rest 2 i))) ∙ after_more bs c.in-Some.b (bytes_of (drop 2 rest)) ∙ ap (after bs) (sym next) ∙ c.loop-rest.invariant
 
-pub returns-then-is-empty : goal.returns-then-is-empty
+pub returns-then-is_empty : goal.returns-then-is_empty
 unfolding bytes_of
-returns-then-is-empty c =
+returns-then-is_empty c =
     let bs = vec_items c.loop-rest.bytes in
-    let none = nil_from_length c.loop-rest.rest.now (true-eqb _ 0 c.if-is-empty.ensures) in
-    ap Some (sym (append-nil bs)) ∙ ap (λ r. after bs (bytes_of r)) (sym none) ∙ c.loop-rest.invariant ∙ ap bytes_of c.as-bytes-rest.ensures.value
+    let none = nil_from_length c.loop-rest.rest.now (true-eqb _ 0 c.if-is_empty.ensures) in
+    ap Some (sym (append-nil bs)) ∙ ap (λ r. after bs (bytes_of r)) (sym none) ∙ c.loop-rest.invariant ∙ ap bytes_of c.as_bytes-rest.ensures.value
 
-pub returns-else-is-empty : goal.returns-else-is-empty
-returns-else-is-empty c =
+pub returns-else-is_empty : goal.returns-else-is_empty
+returns-else-is_empty c =
     let bs = vec_items c.loop-rest.bytes in
-    let some = false-eqb (length c.loop-rest.rest.now) 0 c.if-is-empty.ensures in
+    let some = false-eqb (length c.loop-rest.rest.now) 0 c.if-is_empty.ensures in
     let odd = bytes_odd c.loop-rest.rest.now (omega arith) in
-    ap (after bs) (sym odd) ∙ c.loop-rest.invariant ∙ ap bytes_of c.as-bytes-rest.ensures.value
+    ap (after bs) (sym odd) ∙ c.loop-rest.invariant ∙ ap bytes_of c.as_bytes-rest.ensures.value

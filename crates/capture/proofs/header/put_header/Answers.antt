@@ -10,9 +10,9 @@ unfolding header_bytes
 returns c =
     let h = c.args.header.now in
     let out = c.args.out.now in
-    let start = c.put.ensures [] out refl (filled_none out) ∙ ap (λ l. filled l out) c.marks-of.ensures in
-    let zone = c.put-word.ensures (marks h.order) out (length_marks h.order) start in
-    let accuracy = c.put-word-2.ensures (to_zone h) out (length_to_zone h) zone in
-    let longest = c.put-word-3.ensures (to_accuracy h) out (length_to_accuracy h) accuracy in
-    let after = c.put-word-4.ensures (to_longest h) out (length_to_longest h) longest in
+    let start = c.put.ensures [] out refl (filled_none out) ∙ ap (λ l. filled l out) c.marks_of.ensures in
+    let zone = c.put_word.ensures (marks h.order) out (length_marks h.order) start in
+    let accuracy = c.put_word-2.ensures (to_zone h) out (length_to_zone h) zone in
+    let longest = c.put_word-3.ensures (to_accuracy h) out (length_to_accuracy h) accuracy in
+    let after = c.put_word-4.ensures (to_longest h) out (length_to_longest h) longest in
     record { after = after; back = written_back h out _ (omega arith) (omega arith) (omega arith) (omega arith) after }

@@ -11,9 +11,9 @@ returns c =
     let r = record_said c.args.heard.now in
     let o = c.args.order in
     let out = c.args.out.now in
-    let seconds = c.put-word.ensures [] out refl (filled_none out) in
-    let micros = c.put-word-2.ensures (to_seconds o r) out (length_number o 4 _) seconds in
-    let stored = c.put-word-3.ensures (to_micros o r) out (length_to_micros o r) micros in
-    let original = c.put-word-4.ensures (to_stored o r) out (length_to_stored o r) stored in
+    let seconds = c.put_word.ensures [] out refl (filled_none out) in
+    let micros = c.put_word-2.ensures (to_seconds o r) out (length_number o 4 _) seconds in
+    let stored = c.put_word-3.ensures (to_micros o r) out (length_to_micros o r) micros in
+    let original = c.put_word-4.ensures (to_stored o r) out (length_to_stored o r) stored in
     let after = c.put.ensures (to_original o r) out (length_to_original o r) original in
     record { after = after; back = λ l fit small. written_back o l r out _ fit (omega arith) small after }

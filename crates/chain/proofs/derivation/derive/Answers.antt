@@ -12,4 +12,4 @@ returns g c =
     let purpose = c.args.purpose in
     let high = c.mac-high.ensures ∙ ap (λ f. take 8 (mac w f (purpose ∷ 0 ∷ []))) c.keyed-cipher.ensures in
     let low = c.mac-low.ensures ∙ ap (λ f. take 8 (mac w f (purpose ∷ 1 ∷ []))) c.keyed-cipher.ensures in
-    c.from-halves.ensures ∙ (λ i. key_of (high i ++ low i))
+    c.from_halves.ensures ∙ (λ i. key_of (high i ++ low i))

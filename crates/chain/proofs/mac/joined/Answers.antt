@@ -5,7 +5,7 @@ use Rattle.chain.proofs.TagLaws.{xor_none, xor_more}
 use Rattle.chain.proofs.mac.joined.Goals as goal
 
 pub loop-i-init : goal.loop-i-init
-loop-i-init c = (c.well-formed.0.1.0.1, c.requires, sym (xor_none c.args.state))
+loop-i-init c = (c.well_formed.0.1.0.1, c.requires, sym (xor_none c.args.state))
 
 pub loop-i-preserved : goal.loop-i-preserved
 loop-i-preserved c =

@@ -9,8 +9,8 @@ use Rattle.chain.proofs.mac.mac.Goals as goal
 
 pub loop-part-init : goal.loop-part-init
 loop-part-init g c = (
-  ap chunks_size c.into-iter-part-iterator.ensures.into-iter-gives ∙ c.chunks-part-items.ensures.size ∙ c.width.ensures,
-  c.begun-last.type-inv.1.0.1,
+  ap chunks_size c.into_iter-part-iterator.ensures.into-iter-gives ∙ c.chunks-part-items.ensures.size ∙ c.width.ensures,
+  c.begun-last.type_inv.1.0.1,
   refl,
 )
 
@@ -25,7 +25,7 @@ loop-part-preserved g c =
     let last = c.loop-part.last in
     let part = c.in-Some.part.now in
     let next = c.absorbed-next.result in
-    let long = c.absorbed-next.type-inv.1.0.1 in
+    let long = c.absorbed-next.type_inv.1.0.1 in
     let front = front_of w encrypt (last ⊕ part) next m.make.at_most (length_xor last part ∙ c.loop-part.invariant.1) long c.absorbed-next.ensures in (
       steps.0 ∙ size,
       long,
@@ -45,10 +45,10 @@ returns g c =
     let block = size ++ replicate (16 - w) 0 in
     let wide : length block ≡ 16 = length-append size _ ∙ omega (arith, length-replicate {A = ℕ} (16 - w) 0) in
     let first : take w c.begun-last.result ≡ encrypt (replicate w 0 ⊕ size) =
-    front_of w encrypt block c.begun-last.result narrow wide c.begun-last.type-inv.1.0.1 c.begun-last.ensures ∙ ap encrypt (take_at size _ w long ∙ sym (zeros_xor w size long)) in
+    front_of w encrypt block c.begun-last.result narrow wide c.begun-last.type_inv.1.0.1 c.begun-last.ensures ∙ ap encrypt (take_at size _ w long ∙ sym (zeros_xor w size long)) in
     let none : chunks_rest c.loop-part.part-iterator ≡ [] = nil_from_length _ c.in-None.ensures.steps.1.0 in
-    let whole : chunks_rest c.into-iter-part-iterator.result ≡ message =
-    ap chunks_rest c.into-iter-part-iterator.ensures.into-iter-gives ∙ c.chunks-part-items.ensures.rest in
+    let whole : chunks_rest c.into_iter-part-iterator.result ≡ message =
+    ap chunks_rest c.into_iter-part-iterator.ensures.into-iter-gives ∙ c.chunks-part-items.ensures.rest in
     let ended : take w c.loop-part.last ≡ mac w encrypt message =
     ap (chained encrypt (take w c.loop-part.last)) (sym (ap (blocks w) none ∙ blocks_none w)) ∙ c.loop-part.invariant.2 ∙ (λ i. chained encrypt (first i) (blocks w (whole i))) in
     c.front.ensures ∙ sym (take-take 8 w c.loop-part.last m.make.at_least) ∙ ap (take 8) ended

@@ -10,13 +10,13 @@ loop-slot-init c = (refl, refl)
 pub loop-slot-preserved : goal.loop-slot-preserved
 loop-slot-preserved c =
     let now = c.loop-slot in (
-      length-set now.slot_items _ _ ∙ now.invariant.0,
-      progression_next 26 now.slot_index now.word now.slot_items c.loop-slot-test.true (omega arith) ∙ now.invariant.1,
+      length-set now.slot-items _ _ ∙ now.invariant.0,
+      progression_next 26 now.slot-index now.word now.slot-items c.loop-slot-test.true (omega arith) ∙ now.invariant.1,
     )
 
 pub returns : goal.returns
 unfolding progression
 returns c =
     let now = c.loop-slot in
-    let all : now.slot_index ≡ 26 = omega arith in
-    sym (append-nil _) ∙ ap (λ l. l ++ progression 0 now.word) (sym (take_all now.slot_index now.slot_items (omega arith))) ∙ ap (λ n. take now.slot_index now.slot_items ++ progression (26 - n) now.word) (sym all) ∙ now.invariant.1
+    let all : now.slot-index ≡ 26 = omega arith in
+    sym (append-nil _) ∙ ap (λ l. l ++ progression 0 now.word) (sym (take_all now.slot-index now.slot-items (omega arith))) ∙ ap (λ n. take now.slot-index now.slot-items ++ progression (26 - n) now.word) (sym all) ∙ now.invariant.1

@@ -12,4 +12,4 @@ whole front behind first second message k copied copied_2 count long =
 
 pub returns : goal.returns
 returns c =
-    whole c.args.front.now c.args.behind.now _ _ c.args.message.now _ c.copy-from-slice.ensures.after c.copy-from-slice-2.ensures.after (omega arith) c.requires
+    whole c.args.front.now c.args.behind.now _ _ c.args.message.now _ c.copy_from_slice.ensures.after c.copy_from_slice-2.ensures.after (omega arith) c.requires

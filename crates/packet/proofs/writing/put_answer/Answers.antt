@@ -8,8 +8,8 @@ pub returns : goal.returns
 unfolding answer_bytes
 returns c =
     let p = answer_said c.args.packet.now in
-    let fits = c.put-answer-covered.ensures.fits in
+    let fits = c.put_answer_covered.ensures.fits in
     record {
-      after = c.put.ensures (answer_covered p) _ (length_answer_covered p fits.1) c.put-answer-covered.ensures.after;
+      after = c.put.ensures (answer_covered p) _ (length_answer_covered p fits.1) c.put_answer_covered.ensures.after;
       fits = (fits, omega arith);
     }

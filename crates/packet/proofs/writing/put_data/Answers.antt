@@ -9,6 +9,6 @@ unfolding data_bytes
 returns c =
     let p = data_said c.args.packet.now in
     record {
-      after = c.put.ensures (data_covered p) _ (length_data_covered p) c.put-data-covered.ensures.after;
+      after = c.put.ensures (data_covered p) _ (length_data_covered p) c.put_data_covered.ensures.after;
       fits = omega arith;
     }

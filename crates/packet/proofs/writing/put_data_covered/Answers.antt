@@ -10,8 +10,8 @@ unfolding data_covered
 returns c =
     let p = c.args.packet.now in
     let out = c.args.out.now in
-    let kind = c.put-byte.ensures [] out refl (filled_none out) in
-    let interval = c.put-two.ensures (3 ∷ []) out refl kind in
-    let number = c.put-byte-2.ensures (3 ∷ [] ++ to_be 2 p.interval) out (length_kind_two 3 _) interval in
+    let kind = c.put_byte.ensures [] out refl (filled_none out) in
+    let interval = c.put_two.ensures (3 ∷ []) out refl kind in
+    let number = c.put_byte-2.ensures (3 ∷ [] ++ to_be 2 p.interval) out (length_kind_two 3 _) interval in
     let payload = c.put.ensures (3 ∷ [] ++ to_be 2 p.interval ++ p.number ∷ []) out (length_header 3 _ _) number in
     record { after = payload; fits = omega arith }

@@ -10,6 +10,6 @@ unfolding disclosure_bytes
 returns c =
     let p = c.args.packet.now in
     let out = c.args.out.now in
-    let kind = c.put-byte.ensures [] out refl (filled_none out) in
-    let interval = c.put-two.ensures (4 ∷ []) out refl kind in
+    let kind = c.put_byte.ensures [] out refl (filled_none out) in
+    let interval = c.put_two.ensures (4 ∷ []) out refl kind in
     record { after = c.put.ensures (4 ∷ [] ++ to_be 2 p.interval) out (length_kind_two 4 _) interval; fits = omega arith }

@@ -7,5 +7,5 @@ pub returns : goal.returns
 unfolding request_bytes
 returns c =
     let out = c.args.out.now in
-    let kind = c.put-byte.ensures [] out refl (filled_none out) in
+    let kind = c.put_byte.ensures [] out refl (filled_none out) in
     record { after = c.put.ensures (1 ∷ []) out refl kind; fits = omega arith }

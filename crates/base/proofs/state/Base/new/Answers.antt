@@ -4,9 +4,9 @@ use Rattle.base.proofs.Founds.{founded, pair_of, turned_down}
 use Rattle.base.proofs.OneChain.{pebbled_chain, sends}
 use Rattle.base.proofs.state.Base.new.Goals as goal
 
-pub returns-then-not-may-stand : goal.returns-then-not-may-stand
-returns-then-not-may-stand g c = record {
-  founds = (turned_down _ _ _ _ _ _ c.if-not-may-stand.ensures, refl, refl);
+pub returns-then-not-may_stand : goal.returns-then-not-may_stand
+returns-then-not-may_stand g c = record {
+  founds = (turned_down _ _ _ _ _ _ c.if-not-may_stand.ensures, refl, refl);
   sends = tt;
   pebbled = pebbled_chain g.B.Block.make g.M.KeySource g.D.KeySource c.args.first c.args.second c.args.commitment;
 }
@@ -18,7 +18,7 @@ returns g c =
     let start = c.args.start in
     let duration = c.args.duration in
     let delay = c.args.delay in
-    let fits = c.if-not-may-stand.ensures in
+    let fits = c.if-not-may_stand.ensures in
     let pair = pair_of (supply first) (supply second) c.args.commitment start duration delay fits in
     record {
       founds = (

@@ -3,8 +3,8 @@ use Rattle.base.proofs.Packets.{answer_written}
 use Rattle.base.proofs.state.Base.write_answer.Goals as goal
 
 -- 4,096 intervals of 2^32 behind a start below 2^52 still fit
-pub overflow-add-start : goal.overflow-add-start
-overflow-add-start g c =
+pub overflow_add-start : goal.overflow_add-start
+overflow_add-start g c =
     let b = c.args.self.now in
     let source = g.D.KeySource.meaning b.disclosing.source in
     let long : Fits w32 b.duration = search rules in
@@ -19,5 +19,5 @@ returns g c =
     let there = c.given-interval.ensures in
     let drawn = (g.D.KeySource.meaning b.disclosing.source).drawn in
     let began : b.start + c.from.result * c.from-2.result ≡ b.start + drawn * b.duration = λ i. b.start + (c.from.ensures ∙ there) i * c.from-2.ensures i in
-    let done = answer_written g.B.Block.make c.args.pair b.disclosing.last c.args.reading c.given-interval.result (b.start + c.from.result * c.from-2.result) b.duration b.delay drawn (b.start + drawn * b.duration) c.args.nonce.now c.to-bytes-key.result _ c.tag-of-answer-tag.result c.args.out.now c.write.new.out c.write.result c.requires c.to-bytes-key.ensures.value there began c.tag-of-answer-tag.ensures c.write.ensures.value c.write.ensures.after in
+    let done = answer_written g.B.Block.make c.args.pair b.disclosing.last c.args.reading c.given-interval.result (b.start + c.from.result * c.from-2.result) b.duration b.delay drawn (b.start + drawn * b.duration) c.args.nonce.now c.to_bytes-key.result _ c.tag_of_answer-tag.result c.args.out.now c.write.new.out c.write.result c.requires c.to_bytes-key.ensures.value there began c.tag_of_answer-tag.ensures c.write.ensures.value c.write.ensures.after in
     record { value = done.0; after = done.1 }

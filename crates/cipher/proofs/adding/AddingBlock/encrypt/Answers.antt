@@ -20,7 +20,7 @@ unfolding adding
 returns c =
     let key = c.args.self.now.key in
     let block = c.args.block in
-    let long : length block ≡ 16 = c.well-formed.1.0.1.0.1 in
+    let long : length block ≡ 16 = c.well_formed.1.0.1.0.1 in
     let sum : ℕ → ℕ = λ k. (get_or block k 0 + get_or key k 0 + 1) % 256 in
     let all = fill_by_all sum c.loop-m.sums 16 0 c.loop-m.invariant.0 (λ k below. c.loop-m.invariant.1 k (omega arith)) in
     let whole = take_all 16 block (omega arith) in

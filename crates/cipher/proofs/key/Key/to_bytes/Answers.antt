@@ -12,7 +12,7 @@ pub returns : goal.returns
 unfolding key_bytes
 returns c =
     let self = c.args.self in
-    let fits = c.well-formed.0.1.1 in
-    let value : eight c.to-be-bytes.result ++ eight c.to-be-bytes-2.result ≡ key_bytes self =
-    (λ i. eight (c.to-be-bytes.ensures i) ++ eight (c.to-be-bytes-2.ensures i)) ∙ (λ i. to_be_8 self.high i ++ to_be_8 self.low i) in
+    let fits = c.well_formed.0.1.1 in
+    let value : eight c.to_be_bytes.result ++ eight c.to_be_bytes-2.result ≡ key_bytes self =
+    (λ i. eight (c.to_be_bytes.ensures i) ++ eight (c.to_be_bytes-2.ensures i)) ∙ (λ i. to_be_8 self.high i ++ to_be_8 self.low i) in
     record { value = value; back = ap key_of value ∙ key_of_bytes self fits.0.1 fits.1.0.1 }

@@ -15,12 +15,12 @@ returns c =
     let table = c.args.self.now.table in
     let block = c.args.block in
     let done = c.rounds-done.result in
-    let each = sym (spelled block 16 c.well-formed.1.0.1.0.1) in
-    let a = c.from-le-bytes.ensures ∙ from_le_4 _ _ _ _ ∙ ap (λ l. from_le (take 4 (take 8 l))) each in
-    let b = c.from-le-bytes-2.ensures ∙ from_le_4 _ _ _ _ ∙ ap (λ l. from_le (drop 4 (take 8 l))) each in
-    let plain : ◌≡◌ {A = Halves} (record { a = c.from-le-bytes.result; b = c.from-le-bytes-2.result }) (halves_of (take 8 block)) = λ i. record { a = a i; b = b i } in
+    let each = sym (spelled block 16 c.well_formed.1.0.1.0.1) in
+    let a = c.from_le_bytes.ensures ∙ from_le_4 _ _ _ _ ∙ ap (λ l. from_le (take 4 (take 8 l))) each in
+    let b = c.from_le_bytes-2.ensures ∙ from_le_4 _ _ _ _ ∙ ap (λ l. from_le (drop 4 (take 8 l))) each in
+    let plain : ◌≡◌ {A = Halves} (record { a = c.from_le_bytes.result; b = c.from_le_bytes-2.result }) (halves_of (take 8 block)) = λ i. record { a = a i; b = b i } in
     let rounded = c.rounds-done.ensures ∙ ap (rounds 12 table) (c.whitened.ensures ∙ ap (whitened table) plain) in
-    let written : four c.to-le-bytes.result ++ four c.to-le-bytes-2.result ≡ halves_bytes done =
-    (λ i. four (c.to-le-bytes.ensures i) ++ four (c.to-le-bytes-2.ensures i)) ∙ (λ i. to_le_4 done.a i ++ to_le_4 done.b i) in
+    let written : four c.to_le_bytes.result ++ four c.to_le_bytes-2.result ≡ halves_bytes done =
+    (λ i. four (c.to_le_bytes.ensures i) ++ four (c.to_le_bytes-2.ensures i)) ∙ (λ i. to_le_4 done.a i ++ to_le_4 done.b i) in
     let front = written ∙ ap halves_bytes rounded in
     λ i. front i ++ drop 8 (each i)

@@ -7,39 +7,39 @@ use Rattle.node.specs.Receivers.{meaning}
 use Rattle.node.proofs.Deeds.{sound_then, key_unread, key_read, key_done, asked_no, asked_yes, refused_answer, refused_then}
 use Rattle.node.proofs.receiver.Receiver.key.Goals as goal
 
-pub returns-in-err-disclosed : goal.returns-in-err-disclosed
-returns-in-err-disclosed g c =
+pub returns-in_err-disclosed : goal.returns-in_err-disclosed
+returns-in_err-disclosed g c =
     let cipher = g.B.Block.make in
     let r = meaning c.args.self.now in
     let call = to_key c.args.at.0 c.args.bytes.now in
-    let exit = err_from_is_err_and c.from-residual.result c.from-residual.ensures.1 in
-    let does = key_unread cipher r c.args.at.0 c.args.bytes.now _ c.in-err-disclosed.ensures in
+    let exit = err_from_is_err_and c.from_residual.result c.from_residual.ensures.1 in
+    let does = key_unread cipher r c.args.at.0 c.args.bytes.now _ c.in_err-disclosed.ensures in
     record {
       answer = ap key_says exit.1 ∙ ap refused exit.2 ∙ refused_answer cipher r call _ does;
       after = refused_then cipher r call _ does;
     }
 
-pub returns-in-err-may-adopt : goal.returns-in-err-may-adopt
-returns-in-err-may-adopt g c =
+pub returns-in_err-may_adopt : goal.returns-in_err-may_adopt
+returns-in_err-may_adopt g c =
     let cipher = g.B.Block.make in
     let r = meaning c.args.self.now in
     let call = to_key c.args.at.0 c.args.bytes.now in
-    let exit = err_from_is_err_and c.from-residual-in-err-may-adopt.result c.from-residual-in-err-may-adopt.ensures.1 in
-    let does = key_read cipher r c.args.at.0 c.args.bytes.now (disclosure_said c.in-ok-disclosed.disclosed) c.from-bytes-key.result (Some _) c.in-ok-disclosed.ensures c.from-bytes-key.ensures.value (asked_no _ _ c.in-err-may-adopt.ensures) in
+    let exit = err_from_is_err_and c.from_residual-in_err-may_adopt.result c.from_residual-in_err-may_adopt.ensures.1 in
+    let does = key_read cipher r c.args.at.0 c.args.bytes.now (disclosure_said c.in_ok-disclosed.disclosed) c.from_bytes-key.result (Some _) c.in_ok-disclosed.ensures c.from_bytes-key.ensures.value (asked_no _ _ c.in_err-may_adopt.ensures) in
     record {
       answer = ap key_says exit.1 ∙ ap refused exit.2 ∙ refused_answer cipher r call _ does;
       after = refused_then cipher r call _ does;
     }
 
-pub invariant-of-self : goal.invariant-of-self
-invariant-of-self g c =
+pub invariant_of-self : goal.invariant_of-self
+invariant_of-self g c =
     let cipher = g.B.Block.make in
     let self = c.args.self.now in
-    let done = key_done cipher (meaning self) c.args.at.0 c.args.bytes.now (disclosure_said c.in-ok-disclosed.disclosed) c.from-bytes-key.result c.in-ok-disclosed.ensures c.from-bytes-key.ensures.value (asked_yes _ _ c.in-ok-may-adopt.ensures) in
+    let done = key_done cipher (meaning self) c.args.at.0 c.args.bytes.now (disclosure_said c.in_ok-disclosed.disclosed) c.from_bytes-key.result c.in_ok-disclosed.ensures c.from_bytes-key.ensures.value (asked_yes _ _ c.in_ok-may_adopt.ensures) in
     let sound = sound_then cipher (meaning self) (to_key c.args.at.0 c.args.bytes.now) _ done.1 (record { apart = self.apart; due = self.due }) in
     (self.within, (self.apart, (sound.due, tt)))
 
 pub returns : goal.returns
 returns g c =
-    let done = key_done g.B.Block.make (meaning c.args.self.now) c.args.at.0 c.args.bytes.now (disclosure_said c.in-ok-disclosed.disclosed) c.from-bytes-key.result c.in-ok-disclosed.ensures c.from-bytes-key.ensures.value (asked_yes _ _ c.in-ok-may-adopt.ensures) in
-    record { answer = ap steps (c.from-steps.ensures ∙ c.saturating-sub.ensures) ∙ done.0; after = done.1 }
+    let done = key_done g.B.Block.make (meaning c.args.self.now) c.args.at.0 c.args.bytes.now (disclosure_said c.in_ok-disclosed.disclosed) c.from_bytes-key.result c.in_ok-disclosed.ensures c.from_bytes-key.ensures.value (asked_yes _ _ c.in_ok-may_adopt.ensures) in
+    record { answer = ap steps (c.from-steps.ensures ∙ c.saturating_sub.ensures) ∙ done.0; after = done.1 }

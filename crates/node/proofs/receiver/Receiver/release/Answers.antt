@@ -20,25 +20,25 @@ returns-then-out-lt-MAX-PAYLOAD g c =
     let said = told_quiet cipher r call (refuses BufferTooShort) before does refl in
     record { answer = said.answers; length = said.long; after = refused_then cipher r call _ does; buffer = said.buffer }
 
-pub returns-in-default : goal.returns-in-default
-returns-in-default g c =
+pub returns-in_default : goal.returns-in_default
+returns-in_default g c =
     let cipher = g.B.Block.make in
     let r = meaning c.args.self.now in
     let before = c.args.out.now in
     let call = to_release (length before) in
-    let does = release_none cipher r (length before) c.if-out-lt-MAX-PAYLOAD.false c.in-default.ensures in
+    let does = release_none cipher r (length before) c.if-out-lt-MAX-PAYLOAD.false c.in_default.ensures in
     let said = told_quiet cipher r call rests before does refl in
     record { answer = said.answers; length = said.long; after = sym (then_of cipher r call rests does); buffer = said.buffer }
 
-pub invariant-of-self-2 : goal.invariant-of-self-2
-invariant-of-self-2 g c =
+pub invariant_of-self-2 : goal.invariant_of-self-2
+invariant_of-self-2 g c =
     let cipher = g.B.Block.make in
     let self = c.args.self.now in
     let r = meaning self in
     let room = length c.args.out.now in
     let p = slot_said c.get-record.result in
-    let right = c.is-right-verdict.ensures ∙ ap (right_now (world cipher (clock_of self.clock)) (meaning self).state) c.packet.ensures in
-    let done = release_then cipher r room c.in-Some.place p c.is-right-verdict.result (held c.remove.new.self) c.in-Some.ensures c.get-record.ensures c.if-out-lt-MAX-PAYLOAD.false right self.apart c.remove.ensures.held in
+    let right = c.is_right-verdict.ensures ∙ ap (right_now (world cipher (clock_of self.clock)) (meaning self).state) c.packet.ensures in
+    let done = release_then cipher r room c.in-Some.place p c.is_right-verdict.result (held c.remove.new.self) c.in-Some.ensures c.get-record.ensures c.if-out-lt-MAX-PAYLOAD.false right self.apart c.remove.ensures.held in
     let sound = sound_then cipher r (to_release room) _ done.1 (record { apart = self.apart; due = self.due }) in
     (c.remove.ensures.count, (sound.apart, (self.due, tt)))
 
@@ -50,8 +50,8 @@ returns g c =
     let before = c.args.out.now in
     let call = to_release (length before) in
     let p = slot_said c.get-record.result in
-    let v = c.is-right-verdict.result in
-    let right = c.is-right-verdict.ensures ∙ ap (right_now (world cipher (clock_of self.clock)) (meaning self).state) c.packet.ensures in
+    let v = c.is_right-verdict.result in
+    let right = c.is_right-verdict.ensures ∙ ap (right_now (world cipher (clock_of self.clock)) (meaning self).state) c.packet.ensures in
     let done = release_then cipher r (length before) c.in-Some.place p v (held c.remove.new.self) c.in-Some.ensures c.get-record.ensures c.if-out-lt-MAX-PAYLOAD.false right self.apart c.remove.ensures.held in
-    let said = told_as cipher r call (out_of p v) _ _ before c.let-out.new.out (answer_of cipher r call (releases p v) done.0) c.let-out.ensures.says c.let-out.ensures.length c.let-out.ensures.buffer in
+    let said = told_as cipher r call (out_of p v) _ _ before c.let_out.new.out (answer_of cipher r call (releases p v) done.0) c.let_out.ensures.says c.let_out.ensures.length c.let_out.ensures.buffer in
     record { answer = said.answers; length = said.long; after = done.1; buffer = said.buffer }

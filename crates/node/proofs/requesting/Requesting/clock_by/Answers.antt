@@ -9,7 +9,7 @@ offset-requires c =
     let within = schedule_within (answer_said c.args.answer.now) c.requires.1 in
     (within.shown, c.requires.0)
 
-pub invariant-of-result : goal.invariant-of-result
-invariant-of-result c =
+pub invariant_of-result : goal.invariant_of-result
+invariant_of-result c =
     let within = schedule_within (answer_said c.args.answer.now) c.requires.1 in
     (within.lasting, (omega arith, (omega (arith, ints), (omega (arith, ints), tt))))

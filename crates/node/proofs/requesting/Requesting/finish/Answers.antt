@@ -6,21 +6,21 @@ use Rattle.node.specs.Places.{held}
 use Rattle.node.proofs.Joining.{welcomed_ok, welcomed_err, refused_finish, requested_below, schedule_told, finish_gives, ends_well, joined_sound}
 use Rattle.node.proofs.requesting.Requesting.finish.Goals as goal
 
-pub clock-by-requires : goal.clock-by-requires
-clock-by-requires g c =
+pub clock_by-requires : goal.clock_by-requires
+clock_by-requires g c =
     let cipher = g.B.Block.make in
     let node = node_of c.args.self in
     let granted = welcomed_ok _ _ _ c.in-Ok.ensures in
     (requested_below cipher node c.args.at.0 c.args.bytes.now _ granted.0 granted.1, schedule_told cipher node c.args.at.0 c.args.bytes.now _ granted.0 granted.1)
 
-pub invariant-of-result : goal.invariant-of-result
-invariant-of-result g c =
+pub invariant_of-result : goal.invariant_of-result
+invariant_of-result g c =
     let cipher = g.B.Block.make in
     let node = node_of c.args.self in
     let t = c.args.at.0 in
     let bytes = c.args.bytes.now in
     let granted = welcomed_ok _ _ _ c.in-Ok.ensures in
-    let gives = finish_gives cipher node t bytes (answer_said c.in-Ok.answer) granted.0 granted.1 (clock_of c.clock-by.result) c.from-bytes.result (held c.new.result) c.clock-by.ensures c.from-bytes.ensures.value c.new.ensures.held in
+    let gives = finish_gives cipher node t bytes (answer_said c.in-Ok.answer) granted.0 granted.1 (clock_of c.clock_by.result) c.from_bytes.result (held c.new.result) c.clock_by.ensures c.from_bytes.ensures.value c.new.ensures.held in
     let sound = joined_sound cipher node t bytes _ gives in
     (c.new.ensures.count, (sound.apart, (sound.due, tt)))
 
@@ -31,7 +31,7 @@ returns-in-Ok g c =
     let t = c.args.at.0 in
     let bytes = c.args.bytes.now in
     let granted = welcomed_ok _ _ _ c.in-Ok.ensures in
-    let gives = finish_gives cipher node t bytes (answer_said c.in-Ok.answer) granted.0 granted.1 (clock_of c.clock-by.result) c.from-bytes.result (held c.new.result) c.clock-by.ensures c.from-bytes.ensures.value c.new.ensures.held in
+    let gives = finish_gives cipher node t bytes (answer_said c.in-Ok.answer) granted.0 granted.1 (clock_of c.clock_by.result) c.from_bytes.result (held c.new.result) c.clock_by.ensures c.from_bytes.ensures.value c.new.ensures.held in
     record { value = gives; back = tt; history = ends_well cipher node t bytes _ gives }
 
 pub returns-in-Err : goal.returns-in-Err

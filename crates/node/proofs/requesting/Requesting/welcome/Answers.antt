@@ -7,11 +7,11 @@ use Rattle.node.proofs.Deeds.{asked_no, asked_yes}
 use Rattle.node.proofs.Joining.{welcomed, answer_is, join_asked}
 use Rattle.node.proofs.requesting.Requesting.welcome.Goals as goal
 
-pub returns-in-err-may-join : goal.returns-in-err-may-join
-returns-in-err-may-join g c =
+pub returns-in_err-may_join : goal.returns-in_err-may_join
+returns-in_err-may_join g c =
     let bytes = c.args.bytes.now in
-    let exit = err_from_is_err_and c.from-residual-in-err-may-join.result c.from-residual-in-err-may-join.ensures.1 in
-    let asks = join_asked g.B.Block.make (node_of c.args.self.now) c.args.at.0 bytes (answer_said c.in-ok-answer.answer) (Some _) c.in-ok-answer.ensures (asked_no _ _ c.in-err-may-join.ensures) in
+    let exit = err_from_is_err_and c.from_residual-in_err-may_join.result c.from_residual-in_err-may_join.ensures.1 in
+    let asks = join_asked g.B.Block.make (node_of c.args.self.now) c.args.at.0 bytes (answer_said c.in_ok-answer.answer) (Some _) c.in_ok-answer.ensures (asked_no _ _ c.in_err-may_join.ensures) in
     ap (told answer_said) (exit.1 ∙ ap Err exit.2) ∙ ap (λ o. welcomed o (answer_of bytes)) (sym asks)
 
 pub returns : goal.returns
@@ -19,6 +19,6 @@ returns g c =
     let cipher = g.B.Block.make in
     let node = node_of c.args.self.now in
     let bytes = c.args.bytes.now in
-    let a = answer_said c.in-ok-answer.answer in
-    let asks = join_asked cipher node c.args.at.0 bytes a None c.in-ok-answer.ensures (asked_yes _ _ c.in-ok-may-join.ensures) in
-    ap Ok (sym (answer_is cipher node c.args.at.0 bytes a c.in-ok-answer.ensures)) ∙ ap (λ o. welcomed o (answer_of bytes)) (sym asks)
+    let a = answer_said c.in_ok-answer.answer in
+    let asks = join_asked cipher node c.args.at.0 bytes a None c.in_ok-answer.ensures (asked_yes _ _ c.in_ok-may_join.ensures) in
+    ap Ok (sym (answer_is cipher node c.args.at.0 bytes a c.in_ok-answer.ensures)) ∙ ap (λ o. welcomed o (answer_of bytes)) (sym asks)

@@ -8,5 +8,5 @@ front_is part behind payload copied = take_at part behind (length payload) (ap l
 pub returns : goal.returns
 returns c =
     let packet = c.args.packet.now in
-    let payload = front_is c.copy-from-slice.new.self _ packet.payload.now c.copy-from-slice.ensures.after in
+    let payload = front_is c.copy_from_slice.new.self _ packet.payload.now c.copy_from_slice.ensures.after in
     λ i. record { interval = packet.interval; number = packet.number; payload = payload i; tag = packet.tag.now }

@@ -13,6 +13,6 @@ pub returns : goal.returns
 returns c =
     let self = c.args.self.now in
     let all : self.length - 0 ≡ self.length = omega arith in
-    let copied = c.copy-from-slice.ensures.after ∙ (λ i. take (all i) self.payload) in
-    let out = opened (slot_said self) c.args.verdict self.length (self.length - 0) c.args.out.now c.copy-from-slice.new.self c.if-not-verdict.false copied (simp length-take (omega arith)) all in
+    let copied = c.copy_from_slice.ensures.after ∙ (λ i. take (all i) self.payload) in
+    let out = opened (slot_said self) c.args.verdict self.length (self.length - 0) c.args.out.now c.copy_from_slice.new.self c.if-not-verdict.false copied (simp length-take (omega arith)) all in
     record { says = out.says; length = out.long; buffer = out.buffer }

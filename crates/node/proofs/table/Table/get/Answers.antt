@@ -3,8 +3,8 @@ use Rattle.node.specs.Places.{slot_said}
 use Rattle.node.proofs.Tables.{most_first, one_read}
 use Rattle.node.proofs.table.Table.get.Goals as goal
 
-pub offset-bounds-self-place : goal.offset-bounds-self-place
-offset-bounds-self-place c = let most = most_first slot_said c.args.self.now.slots c.args.self.now.count in omega arith
+pub offset_bounds-self-place : goal.offset_bounds-self-place
+offset_bounds-self-place c = let most = most_first slot_said c.args.self.now.slots c.args.self.now.count in omega arith
 
 pub listed : goal.listed
 listed c = let most = most_first slot_said c.args.self.now.slots c.args.self.now.count in omega arith

@@ -14,18 +14,18 @@ compared w p q all now behind b inv is e = inv ∙ ap (has w p) is ∙ ap (λ x.
 ended : (w : World Data Key) (p : Data) (all now : List Data) → has w p all ≡ has w p now → now ≡ [] → has w p all ≡ false
 ended w p all now inv is = inv ∙ ap (has w p) is
 
-pub returns-then-is-same : goal.returns-then-is-same
-returns-then-is-same c = λ cipher clock.
+pub returns-then-is_same : goal.returns-then-is_same
+returns-then-is_same c = λ cipher clock.
     let self = c.args.self.now in
     let p = data_said c.args.packet.now in
-    let same = ap (same_packet p) (sym c.packet.ensures) ∙ sym c.is-same.ensures ∙ c.if-is-same.true in
+    let same = ap (same_packet p) (sym c.packet.ensures) ∙ sym c.is_same.ensures ∙ c.if-is_same.true in
     sym (compared (world cipher clock) p _ _ _ _ true (c.loop-i.invariant cipher clock) (one_on slot_said self.slots c.loop-i.i self.count _ (omega arith) (omega arith)) same)
 
 pub loop-i-preserved : goal.loop-i-preserved
 loop-i-preserved c = λ cipher clock.
     let self = c.args.self.now in
     let p = data_said c.args.packet.now in
-    let same = ap (same_packet p) (sym c.packet.ensures) ∙ sym c.is-same.ensures ∙ c.if-is-same.false in
+    let same = ap (same_packet p) (sym c.packet.ensures) ∙ sym c.is_same.ensures ∙ c.if-is_same.false in
     compared (world cipher clock) p _ _ _ _ false (c.loop-i.invariant cipher clock) (one_on slot_said self.slots c.loop-i.i self.count _ (omega arith) (omega arith)) same
 
 pub returns : goal.returns

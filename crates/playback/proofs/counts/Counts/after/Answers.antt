@@ -4,15 +4,15 @@ use Rattle.playback.specs.Walks.{payload_length}
 use Rattle.playback.proofs.Orders.{order_after, order_fits}
 use Rattle.playback.proofs.counts.Counts.after.Goals as goal
 
-pub slice-bounds-order-end : goal.slice-bounds-order-end
-slice-bounds-order-end c =
+pub slice_bounds-order-end : goal.slice_bounds-order-end
+slice_bounds-order-end c =
     let within : c.in-Out.released.length ≤ 64 = subst (λ s. payload_length (Some s) ≤ 64) c.in-Out.is c.requires.1 in
     search rules
 
-pub put-order-requires : goal.put-order-requires
-put-order-requires c =
+pub put_order-requires : goal.put_order-requires
+put_order-requires c =
     order_fits c.in-Out.moment c.in-Out.released c.args.payload.now c.if-released.true _ (ap (λ n. take n c.args.payload.now) (sub-zero c.in-Out.released.length)) _ c.in-Out.is _ _ c.requires.0
 
 pub returns-in-Out : goal.returns-in-Out
 returns-in-Out c =
-    order_after c.in-Out.moment c.in-Out.released c.args.payload.now c.if-released.true _ (ap (λ n. take n c.args.payload.now) (sub-zero c.in-Out.released.length)) _ c.in-Out.is _ _ _ _ refl c.put-order.ensures.value c.put-order.ensures.after
+    order_after c.in-Out.moment c.in-Out.released c.args.payload.now c.if-released.true _ (ap (λ n. take n c.args.payload.now) (sub-zero c.in-Out.released.length)) _ c.in-Out.is _ _ _ _ refl c.put_order.ensures.value c.put_order.ensures.after

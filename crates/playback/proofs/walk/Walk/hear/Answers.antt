@@ -5,10 +5,10 @@ use Rattle.playback.specs.Stages.{Heard, outcome_said, part_of}
 use Rattle.playback.proofs.walk.Walk.hear.Goals as goal
 use Rattle.playback.proofs.OneStep.{ends_there, hears_one}
 
-pub returns-in-default : goal.returns-in-default
-returns-in-default g c = record {
-  steps = λ buffer. ends_there g.B.Block.make _ _ _ _ _ c.requires c.in-default.ensures.taken.none
-      ((λ i. records (c.next.ensures.order i) (c.next.ensures.limit i) (c.in-default.ensures.taken.same i)) ∙ c.in-default.ensures.taken.none);
+pub returns-in_default : goal.returns-in_default
+returns-in_default g c = record {
+  steps = λ buffer. ends_there g.B.Block.make _ _ _ _ _ c.requires c.in_default.ensures.taken.none
+      ((λ i. records (c.next.ensures.order i) (c.next.ensures.limit i) (c.in_default.ensures.taken.same i)) ∙ c.in_default.ensures.taken.none);
   within = omega arith;
   quiet = λ buffer. refl;
 }

@@ -9,8 +9,8 @@ use Rattle.source.proofs.KeysFrom.{keys_chain}
 use Rattle.source.proofs.WholeRuns.{stepping, whole_run}
 use Rattle.source.proofs.pebbled.draws.unused_source.Goals as goal
 
-pub invariant-of-result : goal.invariant-of-result
-invariant-of-result g c = (
+pub invariant_of-result : goal.invariant_of-result
+invariant_of-result g c = (
   c.requires.0,
   (
     c.requires.1,

@@ -12,8 +12,8 @@ moved-taken-requires g c = λ m.
     let same = still (step g.B.Block.make) c.args.levels.now c.loop-j.levels c.loop-j.j c.loop-j.steps no_level c.loop-j.invariant (omega (arith, c.told-levels)) in
     subst (λ l. 2 ≤ l.place) (sym same) (c.requires c.loop-j.j no_level c.loop-j-test.true (ap moves (sym same) ∙ m))
 
-pub overflow-add-steps : goal.overflow-add-steps
-overflow-add-steps g c =
+pub overflow_add-steps : goal.overflow_add-steps
+overflow_add-steps g c =
     omega (arith, steps_fit (step g.B.Block.make) c.args.levels.now c.loop-j.levels c.loop-j.j c.loop-j.steps no_level c.loop-j.invariant c.moved-taken.result.1 (omega (arith, c.told-levels)) c.moved-taken.ensures.steps)
 
 pub loop-j-preserved : goal.loop-j-preserved

@@ -15,8 +15,8 @@ stride_is j pos small = shl_whole 2 2 (j - 1) 32 (omega arith) (omega arith) ∙
 pub loop-j-init : goal.loop-j-init
 loop-j-init g c = made_none (step g.B.Block.make) c.args.last c.args.bits 12 no_level _ (one_shl c.args.bits 32 (omega arith))
 
-pub overflow-sub-place : goal.overflow-sub-place
-overflow-sub-place g c = omega (arith, stride_is c.loop-j.j c.loop-j-test.true (omega arith), c.loop-j.invariant.above)
+pub overflow_sub-place : goal.overflow_sub-place
+overflow_sub-place g c = omega (arith, stride_is c.loop-j.j c.loop-j-test.true (omega arith), c.loop-j.invariant.above)
 
 pub loop-j-preserved : goal.loop-j-preserved
 loop-j-preserved g c =
