@@ -34,7 +34,7 @@ fn joined(nonce: &[u8; 8], covered: &[u8; 40]) -> [u8; 48]
 
 // The tag of an answer to a request under the key of the pair.
 fn tag_of_answer<B: Block>(pair: Key, nonce: &[u8; 8], answer: &Answer) -> [u8; 8]
-    ensures { result ≡ answer_tag make pair nonce.now (answer_said answer.now) }
+    ensures { result ≡ answer_tag B.make pair nonce.now (answer_said answer.now) }
 {
     let covered = answer.covered();
     let message = joined(nonce, &covered);

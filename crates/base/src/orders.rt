@@ -18,7 +18,7 @@ use source::KeySource;
 // The tag of an order under the key of its interval.
 fn order_tag<B: Block>(key: Key, order: &Data) -> [u8; 8]
     requires { length order.now.payload.now ≤ 64 }
-    ensures { result ≡ data_tag make key (data_said order.now) }
+    ensures { result ≡ data_tag B.make key (data_said order.now) }
 {
     let mut covered = [0; 68];
     let Ok(length) = order.covered(&mut covered) else {
@@ -41,7 +41,7 @@ fn write_order<B: Block>(
     requires payload_len_bound { length payload.now ≤ 64 }
     requires payload_in_bounds { 12 + length payload.now ≤ length out.old }
     ensures value { result ≡ Ok (12 + length payload.now) }
-    ensures after { out.new ≡ filled (data_bytes (data_under make key interval number payload.now)) out.old }
+    ensures after { out.new ≡ filled (data_bytes (data_under B.make key interval number payload.now)) out.old }
 {
     let none = [0; 8];
     let draft = Data {

@@ -1,6 +1,6 @@
 // Keys derived from keys, and steps down the chain, over any block cipher.
 ghost use Rattle.std.specs.Prelude.{◌≡◌, ℕ, ◌+◌};
-ghost use Rattle.chain.specs.Chain.{derive as derived, down as down_by, interval_tag_key, pair_tag_key, step as step_of_lem};
+ghost use Rattle.chain.specs.Chain.{derive as derived, down as down_by, interval_tag_key, pair_tag_key, step as step_of};
 
 use crate::mac::mac;
 use cipher::{Block, Key};
@@ -14,7 +14,7 @@ const PAIR_TAG: u8 = 3;
 
 // The key for a purpose: one key set-up, and the tags of two short messages.
 pub fn derive<B: Block>(key: Key, purpose: u8) -> Key
-    ensures { result ≡ derived make key purpose }
+    ensures { result ≡ derived B.make key purpose }
 {
     let cipher = B::keyed(key);
     let high = mac(&cipher, &[purpose, 0]);
@@ -24,13 +24,13 @@ pub fn derive<B: Block>(key: Key, purpose: u8) -> Key
 
 // One step down the chain.
 pub fn step<B: Block>(key: Key) -> Key
-    ensures { result ≡ step_of_lem make key }
+    ensures { result ≡ step_of B.make key }
 {
     derive::<B>(key, STEP)
 }
 
 fn stepped<B: Block>(key: Key, steps: u32) -> Key
-    ensures { result ≡ down_by make key steps }
+    ensures { result ≡ down_by B.make key steps }
 {
     let mut reached = key;
     for s in 0..steps {
@@ -41,22 +41,22 @@ fn stepped<B: Block>(key: Key, steps: u32) -> Key
 
 // Some steps down the chain; t steps more are that many and t from the first key.
 pub fn down<B: Block>(key: Key, steps: u32) -> Key
-    ensures value { result ≡ down_by make key steps }
-    ensures more { (t : ℕ) → down_by make result t ≡ down_by make key (steps + t) }
+    ensures value { result ≡ down_by B.make key steps }
+    ensures more { (t : ℕ) → down_by B.make result t ≡ down_by B.make key (steps + t) }
 {
     stepped::<B>(key, steps)
 }
 
 // The key under which the packets of an interval are tagged.
 pub fn interval_tag_key<B: Block>(key: Key) -> Key
-    ensures { result ≡ interval_tag_key make key }
+    ensures { result ≡ interval_tag_key B.make key }
 {
     derive::<B>(key, INTERVAL_TAG)
 }
 
 // The key under which a base and a node tag what they say to each other.
 pub fn pair_tag_key<B: Block>(key: Key) -> Key
-    ensures { result ≡ pair_tag_key make key }
+    ensures { result ≡ pair_tag_key B.make key }
 {
     derive::<B>(key, PAIR_TAG)
 }

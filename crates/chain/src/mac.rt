@@ -2,7 +2,7 @@
 ghost use Rattle.std.specs.Prelude.{◌≡◌, ◌-◌, ◌≤◌, ◌++◌, length, take, replicate};
 ghost use Rattle.cipher.specs.Blocks.{on_front};
 ghost use Rattle.cipher.specs.Bytes.{to_be};
-ghost use Rattle.chain.specs.Tag.{◌⊕◌, mac as chained-mac, tag as tag_of, tagged};
+ghost use Rattle.chain.specs.Tag.{◌⊕◌, mac as chained_mac, tag as tag_of, tagged};
 
 use cipher::{Block, Key};
 use refusal::Refusal;
@@ -44,7 +44,7 @@ fn front(block: [u8; 16]) -> [u8; 8]
 // The state of the chaining after the length of a message.
 fn begun<B: Block>(cipher: &B, length: usize) -> [u8; 16]
     requires { length ≤ 4096 }
-    ensures { result ≡ on_front make.width (under cipher.now) (to_be make.width length ++ replicate (16 - make.width) 0) }
+    ensures { result ≡ on_front B.make.width (B.under cipher.now) (to_be B.make.width length ++ replicate (16 - B.make.width) 0) }
 {
     cipher.encrypt(length_block(B::width(), length))
 }
@@ -52,7 +52,7 @@ fn begun<B: Block>(cipher: &B, length: usize) -> [u8; 16]
 // The state of the chaining after one more part of a message, a block or what is left.
 fn absorbed<B: Block>(cipher: &B, last: [u8; 16], part: &[u8]) -> [u8; 16]
     requires { length part.now ≤ 16 }
-    ensures { result ≡ on_front make.width (under cipher.now) (last ⊕ part.now) }
+    ensures { result ≡ on_front B.make.width (B.under cipher.now) (last ⊕ part.now) }
 {
     cipher.encrypt(joined(last, part))
 }
@@ -60,7 +60,7 @@ fn absorbed<B: Block>(cipher: &B, last: [u8; 16], part: &[u8]) -> [u8; 16]
 // The tag of a message that is not too long, under a key that is set up.
 pub(crate) fn mac<B: Block>(cipher: &B, message: &[u8]) -> [u8; 8]
     requires { length message.now ≤ 4096 }
-    ensures { result ≡ take 8 (chained-mac make.width (under cipher.now) message.now) }
+    ensures { result ≡ take 8 (chained_mac B.make.width (B.under cipher.now) message.now) }
 {
     let mut last = begun(cipher, message.len());
     for part in message.chunks(B::width()) {
@@ -72,14 +72,14 @@ pub(crate) fn mac<B: Block>(cipher: &B, message: &[u8]) -> [u8; 8]
 
 fn tag_under<B: Block>(key: Key, message: &[u8]) -> [u8; 8]
     requires { length message.now ≤ 4096 }
-    ensures { result ≡ tag_of make key message.now }
+    ensures { result ≡ tag_of B.make key message.now }
 {
     mac(&B::keyed(key), message)
 }
 
 // The tag of a message under a key.
 pub fn tag<B: Block>(key: Key, message: &[u8]) -> Result<[u8; 8], Refusal>
-    ensures { result ≡ tagged make key message.now }
+    ensures { result ≡ tagged B.make key message.now }
 {
     if message.len() > LONGEST {
         return Err(Refusal::TooLong);

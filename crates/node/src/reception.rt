@@ -28,7 +28,7 @@ fn is_same_key(key: Key, other: Key) -> bool
 impl<B: Block> Receiver<B> {
     // The questions of a take, once the packet is read.
     fn may_take(&self, at: Reading, packet: &Data) -> Result<(), Refusal>
-        ensures { result ≡ asked (first_no (take_questions (world make (meaning self.now).clock) (meaning self.now).state at.0 (data_said packet.now))) }
+        ensures { result ≡ asked (first_no (take_questions (world B.make (meaning self.now).clock) (meaning self.now).state at.0 (data_said packet.now))) }
     {
         if !is_in_order(self.latest, at) {
             return Err(Refusal::ReadingOutOfOrder);
@@ -50,8 +50,8 @@ impl<B: Block> Receiver<B> {
 
     // Takes a packet in, to be held until its key is known, and answers how many are then held.
     pub fn take(&mut self, at: Reading, bytes: &[u8]) -> Result<usize, Refusal>
-        ensures answer { take_says result ≡ answer make (meaning self.old) (to_take at.0 bytes.now) }
-        ensures after { meaning self.new ≡ then make (meaning self.old) (to_take at.0 bytes.now) }
+        ensures answer { take_says result ≡ answer B.make (meaning self.old) (to_take at.0 bytes.now) }
+        ensures after { meaning self.new ≡ then B.make (meaning self.old) (to_take at.0 bytes.now) }
     {
         let packet = read_data(bytes)?;
         self.may_take(at, &packet)?;
@@ -62,7 +62,7 @@ impl<B: Block> Receiver<B> {
 
     // The questions of a key, once its packet is read.
     fn may_adopt(&self, at: Reading, key: Key, interval: u16) -> Result<(), Refusal>
-        ensures { result ≡ asked (first_no (key_questions (world make (meaning self.now).clock) (meaning self.now).state at.0 key interval)) }
+        ensures { result ≡ asked (first_no (key_questions (world B.make (meaning self.now).clock) (meaning self.now).state at.0 key interval)) }
     {
         if !is_in_order(self.latest, at) {
             return Err(Refusal::ReadingOutOfOrder);
@@ -85,8 +85,8 @@ impl<B: Block> Receiver<B> {
 
     // Takes a key as the newest, however many were missed before it, and answers the steps from it to the last one.
     pub fn key(&mut self, at: Reading, bytes: &[u8]) -> Result<u32, Refusal>
-        ensures answer { key_says result ≡ answer make (meaning self.old) (to_key at.0 bytes.now) }
-        ensures after { meaning self.new ≡ then make (meaning self.old) (to_key at.0 bytes.now) }
+        ensures answer { key_says result ≡ answer B.make (meaning self.old) (to_key at.0 bytes.now) }
+        ensures after { meaning self.new ≡ then B.make (meaning self.old) (to_key at.0 bytes.now) }
     {
         let disclosed = read_key(bytes)?;
         let key = Key::from_bytes(*disclosed.key);
@@ -101,7 +101,7 @@ impl<B: Block> Receiver<B> {
     // The packet's tag is right under the newest key, stepped down to the packet's interval.
     fn is_right(&self, packet: &Data) -> bool
         requires { length packet.now.payload.now ≤ 64 }
-        ensures { result ≡ right_now (world make (meaning self.now).clock) (meaning self.now).state (data_said packet.now) }
+        ensures { result ≡ right_now (world B.make (meaning self.now).clock) (meaning self.now).state (data_said packet.now) }
     {
         let steps = u32::from(self.reached.saturating_sub(packet.interval));
         let right = data_tag::<B>(down::<B>(self.newest, steps), packet);
@@ -111,10 +111,10 @@ impl<B: Block> Receiver<B> {
 
     // Lets out the first packet whose key is known, with its payload if its tag is right.
     pub fn release(&mut self, out: &mut [u8]) -> Result<Option<Released>, Refusal>
-        ensures answer { release_says result out.new ≡ answer make (meaning self.old) (to_release (length out.old)) }
-        ensures length { release_length result ≡ length (written (answer make (meaning self.old) (to_release (length out.old)))) }
-        ensures after { meaning self.new ≡ then make (meaning self.old) (to_release (length out.old)) }
-        ensures buffer { out.new ≡ filled (written (answer make (meaning self.old) (to_release (length out.old)))) out.old }
+        ensures answer { release_says result out.new ≡ answer B.make (meaning self.old) (to_release (length out.old)) }
+        ensures length { release_length result ≡ length (written (answer B.make (meaning self.old) (to_release (length out.old)))) }
+        ensures after { meaning self.new ≡ then B.make (meaning self.old) (to_release (length out.old)) }
+        ensures buffer { out.new ≡ filled (written (answer B.make (meaning self.old) (to_release (length out.old)))) out.old }
     {
         if out.len() < MAX_PAYLOAD {
             return Err(Refusal::BufferTooShort);

@@ -101,7 +101,7 @@ impl Requesting {
 
     // The questions of a finish, once the answer is read.
     fn may_join<B: Block>(&self, at: Reading, answer: &Answer) -> Result<(), Refusal>
-        ensures { result ≡ asked (first_no (join_questions make (node_of self.now) at.0 (answer_said answer.now))) }
+        ensures { result ≡ asked (first_no (join_questions B.make (node_of self.now) at.0 (answer_said answer.now))) }
     {
         if !is_in_order(self.requested, at) {
             return Err(Refusal::ReadingOutOfOrder);
@@ -122,7 +122,7 @@ impl Requesting {
 
     // The answer that bytes carry, if every question of a finish is answered yes.
     fn welcome<'a, B: Block>(&self, at: Reading, bytes: &'a [u8]) -> Result<Answer<'a>, Refusal>
-        ensures { told answer_said result ≡ unless (first_no (finish_questions make (node_of self.now) at.0 bytes.now)) Err (Ok (answer_of bytes.now)) }
+        ensures { told answer_said result ≡ unless (first_no (finish_questions B.make (node_of self.now) at.0 bytes.now)) Err (Ok (answer_of bytes.now)) }
     {
         let answer = read_answer(bytes)?;
         self.may_join::<B>(at, &answer)?;
@@ -131,7 +131,7 @@ impl Requesting {
 
     // Whether a finish with these bytes would be granted; the node stays.
     pub fn check<B: Block>(&self, at: Reading, bytes: &[u8]) -> Result<(), Refusal>
-        ensures { result ≡ asked (first_no (finish_questions make (node_of self.now) at.0 bytes.now)) }
+        ensures { result ≡ asked (first_no (finish_questions B.make (node_of self.now) at.0 bytes.now)) }
     {
         match self.welcome::<B>(at, bytes) {
             Ok(_) => Ok(()),
@@ -145,9 +145,9 @@ impl Requesting {
         at: Reading,
         bytes: &[u8],
     ) -> Result<Receiver<B>, (Requesting, Refusal)>
-        ensures value { result_map_both meaning (λ x. x.1) result ≡ finished make (node_of self) at.0 bytes.now }
+        ensures value { result_map_both meaning (λ x. x.1) result ≡ finished B.make (node_of self) at.0 bytes.now }
         ensures back { IfErr result (λ x. x.0 ≡ self) }
-        ensures history { IfOk result (λ x. EndsWell make bytes.now (meaning x)) }
+        ensures history { IfOk result (λ x. EndsWell B.make bytes.now (meaning x)) }
     {
         match self.welcome::<B>(at, bytes) {
             Ok(answer) => Ok(Receiver {

@@ -11,7 +11,7 @@ use packet::{Answer, Data};
 // The tag of a packet, from the chain's key of its interval.
 pub(crate) fn data_tag<B: Block>(key: Key, packet: &Data) -> [u8; 8]
     requires { length packet.now.payload.now ≤ 64 }
-    ensures { result ≡ data_tag make key (data_said packet.now) }
+    ensures { result ≡ data_tag B.make key (data_said packet.now) }
 {
     let mut covered = [0; 68];
     let length = packet.covered(&mut covered).unwrap();
@@ -30,7 +30,7 @@ fn join(front: &[u8], behind: &[u8], message: &mut [u8])
 
 // The tag of an answer, from the key of the pair and the request's nonce.
 pub(crate) fn answer_tag<B: Block>(pair: Key, nonce: [u8; 8], answer: &Answer) -> [u8; 8]
-    ensures { result ≡ answer_tag make pair nonce (answer_said answer.now) }
+    ensures { result ≡ answer_tag B.make pair nonce (answer_said answer.now) }
 {
     let covered = answer.covered();
     let mut message = [0; 48];

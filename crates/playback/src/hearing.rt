@@ -40,8 +40,8 @@ fn receive<B: Block>(
     bytes: &[u8],
     packet: Packet,
 ) -> Outcome
-    ensures outcome { outcome_said result ≡ packet_hearing make (receiving (meaning receiver.old)) at.0 bytes.now (said packet.entry) }
-    ensures after { meaning receiver.new ≡ called make (meaning receiver.old) (offers at.0 bytes.now (Ok (said packet.entry))) }
+    ensures outcome { outcome_said result ≡ packet_hearing B.make (receiving (meaning receiver.old)) at.0 bytes.now (said packet.entry) }
+    ensures after { meaning receiver.new ≡ called B.make (meaning receiver.old) (offers at.0 bytes.now (Ok (said packet.entry))) }
 {
     match packet {
         Packet::Data(_) => held(receiver.take(at, bytes)),
@@ -56,7 +56,7 @@ const DRIFT: u32 = 10_000;
 fn ask<B: Block>(pair: Key, at: Reading, packet: Packet) -> (Stage<B>, Outcome)
     requires { at.0 < 2 ^ 52 }
     ensures part { part_of result.0 ≡ asked_by pair at.0 (Ok (said packet.entry)) }
-    ensures outcome { (bytes : List ℕ) → outcome_said result.1 ≡ packet_hearing make silent at.0 bytes (said packet.entry) }
+    ensures outcome { (bytes : List ℕ) → outcome_said result.1 ≡ packet_hearing B.make silent at.0 bytes (said packet.entry) }
 {
     match packet {
         Packet::Request(request) => {
@@ -76,8 +76,8 @@ fn join<B: Block>(
     bytes: &[u8],
     packet: Packet,
 ) -> (Stage<B>, Outcome)
-    ensures part { part_of result.0 ≡ joined_by make (node_of node) at.0 bytes.now (Ok (said packet.entry)) }
-    ensures outcome { outcome_said result.1 ≡ packet_hearing make (asking (node_of node)) at.0 bytes.now (said packet.entry) }
+    ensures part { part_of result.0 ≡ joined_by B.make (node_of node) at.0 bytes.now (Ok (said packet.entry)) }
+    ensures outcome { outcome_said result.1 ≡ packet_hearing B.make (asking (node_of node)) at.0 bytes.now (said packet.entry) }
 {
     match packet {
         Packet::Answer(_) => match node.finish::<B>(at, bytes) {
@@ -96,7 +96,7 @@ impl<B: Block> Stage<B> {
     // What the node makes of bytes at a time, and how far it has come then.
     pub(crate) fn hear(self, pair: Key, at: Reading, bytes: &[u8]) -> (Stage<B>, Outcome)
         requires { at.0 < 2 ^ 52 }
-        ensures { Heard make pair (part_of self) at.0 bytes.now (part_of result.0) (outcome_said result.1) }
+        ensures { Heard B.make pair (part_of self) at.0 bytes.now (part_of result.0) (outcome_said result.1) }
     {
         let packet = match read(bytes) {
             Ok(packet) => packet,

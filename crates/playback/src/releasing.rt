@@ -16,7 +16,7 @@ fn let_out<B: Block>(
     receiver: &mut Receiver<B>,
     payload: &mut [u8; MAX_PAYLOAD],
 ) -> Option<Released>
-    ensures lets { LetsOut make (receiving (meaning receiver.old)) (receiving (meaning receiver.new)) (told_out result payload.new) }
+    ensures lets { LetsOut B.make (receiving (meaning receiver.old)) (receiving (meaning receiver.new)) (told_out result payload.new) }
     ensures buffer { payload.new ≡ filled (wrote (told_out result payload.new)) payload.old }
     ensures within { out_length result ≤ 64 }
 {
@@ -29,7 +29,7 @@ fn let_out<B: Block>(
 impl<B: Block> Stage<B> {
     // The next packet whose key is known, with its payload in the start of the buffer; none where there is none left.
     pub(crate) fn release(self, payload: &mut [u8; MAX_PAYLOAD]) -> (Stage<B>, Option<Released>)
-        ensures lets { LetsOut make (part_of self) (part_of result.0) (told_out result.1 payload.new) }
+        ensures lets { LetsOut B.make (part_of self) (part_of result.0) (told_out result.1 payload.new) }
         ensures buffer { payload.new ≡ filled (wrote (told_out result.1 payload.new)) payload.old }
         ensures within { out_length result.1 ≤ 64 }
     {

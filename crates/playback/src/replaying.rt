@@ -63,9 +63,9 @@ impl Counts {
 impl<B: Block> Walk<'_, B> {
     // Walks to the end, and writes the orders behind the header.
     fn write_orders(mut self, out: &mut [u8]) -> Counts
-        requires { StepsFit (to_come make self) (length out.old) }
-        ensures counts { result ≡ counts_of (to_come make self.entry) }
-        ensures after { Puts 24 (orders_bytes (to_come make self.entry)) out.old out.new }
+        requires { StepsFit (to_come B.make self) (length out.old) }
+        ensures counts { result ≡ counts_of (to_come B.make self.entry) }
+        ensures after { Puts 24 (orders_bytes (to_come B.make self.entry)) out.old out.new }
     {
         let mut counts = Counts {
             written: Header::LENGTH,

@@ -42,7 +42,7 @@ impl<'a, B: Block> Walk<'a, B> {
 
     // What a granted key lets out; once nothing is left, the records go on.
     fn let_out(&mut self, payload: &mut [u8; MAX_PAYLOAD]) -> Option<Step<'a>>
-        ensures steps { LetsOn (told_step result payload.new) (to_come make self.old) (to_come make self.new) self.new.releasing }
+        ensures steps { LetsOn (told_step result payload.new) (to_come B.make self.old) (to_come B.make self.new) self.new.releasing }
         ensures buffer { payload.new ≡ filled (step_wrote (told_step result payload.new)) payload.old }
         ensures within { payload_length result ≤ 64 }
     {
@@ -64,7 +64,7 @@ impl<'a, B: Block> Walk<'a, B> {
     // The next record, and what the node makes of it.
     fn hear(&mut self) -> Option<Step<'a>>
         requires { self.old.releasing ≡ None }
-        ensures steps { (buffer : List ℕ) → StepsOn (told_step result buffer) (to_come make self.old) (to_come make self.new) }
+        ensures steps { (buffer : List ℕ) → StepsOn (told_step result buffer) (to_come B.make self.old) (to_come B.make self.new) }
         ensures within { payload_length result ≤ 64 }
         ensures quiet { (buffer : List ℕ) → step_wrote (told_step result buffer) ≡ [] }
     {
@@ -84,7 +84,7 @@ impl<'a, B: Block> Walk<'a, B> {
 
     // The next step; none at the end of the records.
     pub fn next(&mut self, payload: &mut [u8; MAX_PAYLOAD]) -> Option<Step<'a>>
-        ensures steps { StepsOn (told_step result payload.new) (to_come make self.old) (to_come make self.new) }
+        ensures steps { StepsOn (told_step result payload.new) (to_come B.make self.old) (to_come B.make self.new) }
         ensures buffer { payload.new ≡ filled (step_wrote (told_step result payload.new)) payload.old }
         ensures within { payload_length result ≤ 64 }
     {

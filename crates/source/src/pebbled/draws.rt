@@ -14,8 +14,8 @@ use std::marker::PhantomData;
 
 fn unused_source<B: Block>(last: Key, bits: u32) -> Pebbled<B>
     requires { (1 ≤ bits) × (bits ≤ 12) }
-    ensures made { Unused (stepped make) result make last bits }
-    ensures runs { Run (stepped make) result make last bits }
+    ensures made { Unused (stepped B.make) result B.make last bits }
+    ensures runs { Run (stepped B.make) result B.make last bits }
     ensures steps { Stepping bits }
 {
     Pebbled {
@@ -29,8 +29,8 @@ fn unused_source<B: Block>(last: Key, bits: u32) -> Pebbled<B>
 impl<B: Block> Pebbled<B> {
     // The source of the 2^k keys of the chain that ends in `last`.
     pub fn make(last: Key, k: u32) -> Result<Pebbled<B>, Refusal>
-        ensures made { elim result [ Ok p ↦ Unused (stepped make) p make last k | Err e ↦ (1 ≤ k → k ≤ 12 → ⊥) × (e ≡ OutOfLimits) ] }
-        ensures runs { elim result [ Ok p ↦ Run (stepped make) p make last k × Stepping k | Err _ ↦ Unit {0} ] }
+        ensures made { elim result [ Ok p ↦ Unused (stepped B.make) p B.make last k | Err e ↦ (1 ≤ k → k ≤ 12 → ⊥) × (e ≡ OutOfLimits) ] }
+        ensures runs { elim result [ Ok p ↦ Run (stepped B.make) p B.make last k × Stepping k | Err _ ↦ Unit {0} ] }
     {
         if k < 1 || k > 12 {
             return Err(Refusal::OutOfLimits);

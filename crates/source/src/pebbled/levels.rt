@@ -1,7 +1,7 @@
 // What a call does to the levels of a pebbled source.
 ghost use Rattle.std.specs.Prelude.{◌≡◌, ℕ, ◌+◌, ◌-◌, ◌*◌, ◌%◌, ◌^◌, ◌<◌, ◌≤◌, true, map, get_or, if◌then◌else◌, slice_index_or};
 ghost use Rattle.cipher.specs.declared.key.Key.{Key as KeyOf};
-ghost use Rattle.chain.specs.Chain.{step as step_of_lem};
+ghost use Rattle.chain.specs.Chain.{step as step_of};
 ghost use Rattle.pebbles.specs.declared.level.Level.{Level as LevelOf};
 ghost use Rattle.pebbles.specs.Draws.{Placed, steps_after};
 ghost use Rattle.pebbles.specs.Levels.{Gives, call, lowered, lowering_steps, moves, zeros};
@@ -15,7 +15,7 @@ use pebbles::Level;
 // A level that is above its target goes down two places; with the steps that this takes.
 fn moved<B: Block>(l: Level<Key>) -> (Level<Key>, u32)
     requires { moves l ≡ true → 2 ≤ l.place }
-    ensures level { result.0 ≡ lowered (step_of_lem make) l }
+    ensures level { result.0 ≡ lowered (step_of B.make) l }
     ensures steps { result.1 ≡ (if moves l then 2 else 0) }
 {
     if !l.away && l.place > l.target {
@@ -36,7 +36,7 @@ fn moved<B: Block>(l: Level<Key>) -> (Level<Key>, u32)
 
 fn lower<B: Block>(levels: &mut [Level<Key>; 12]) -> u32
     requires { (j : ℕ) (d : LevelOf KeyOf) → j < 12 → moves (slice_index_or levels.old j d) ≡ true → 2 ≤ (get_or levels.old j d).place }
-    ensures levels { levels.new ≡ map (lowered (step_of_lem make)) levels.old }
+    ensures levels { levels.new ≡ map (lowered (step_of B.make)) levels.old }
     ensures steps { result ≡ lowering_steps levels.old }
     ensures few { result ≤ 24 }
 {
@@ -68,7 +68,7 @@ fn index_above(i: u32) -> usize
 // The key one step below that of a level, with the steps of the whole call.
 fn below<B: Block>(l: Level<Key>, spent: u32) -> (Key, u32)
     requires { spent ≤ 24 }
-    ensures key { result.0 ≡ step_of_lem make l.key }
+    ensures key { result.0 ≡ step_of B.make l.key }
     ensures steps { result.1 ≡ spent + 1 }
 {
     (step::<B>(l.key), spent + 1)
@@ -95,7 +95,7 @@ fn refill_of(i: u32, stride: u32) -> (u32, u32)
 fn give<B: Block>(levels: &mut [Level<Key>; 12], bits: u32, given: u32) -> (Key, u32)
     requires sized { (1 ≤ bits) × (bits ≤ 12) × (given < 2 ^ bits) }
     requires placed { Placed no_key levels.old bits 12 given }
-    ensures { Gives (call (step_of_lem make) (2 ^ bits) (given + 1) levels.old) result.0 result.1 levels.new }
+    ensures { Gives (call (step_of B.make) (2 ^ bits) (given + 1) levels.old) result.0 result.1 levels.new }
 {
     let i = given + 1;
     let spent = lower::<B>(levels);
@@ -123,9 +123,9 @@ fn give<B: Block>(levels: &mut [Level<Key>; 12], bits: u32, given: u32) -> (Key,
 pub(super) fn drawn<B: Block>(levels: &mut [Level<Key>; 12], bits: u32, given: u32) -> (Key, u32)
     requires sized { (1 ≤ bits) × (bits ≤ 12) × (given < 2 ^ bits) }
     requires placed { Placed no_key levels.old bits 12 given }
-    ensures key { result.0 ≡ key_from make levels.old bits given (given + 1) }
+    ensures key { result.0 ≡ key_from B.make levels.old bits given (given + 1) }
     ensures steps { result.1 ≡ steps_after bits 12 given }
-    ensures stay { (m : ℕ) → given + 1 < m → m ≤ 2 ^ bits → key_from make levels.new bits (given + 1) m ≡ key_from make levels.old bits given m }
+    ensures stay { (m : ℕ) → given + 1 < m → m ≤ 2 ^ bits → key_from B.make levels.new bits (given + 1) m ≡ key_from B.make levels.old bits given m }
     ensures placed { Placed no_key levels.new bits 12 (given + 1) }
 {
     give::<B>(levels, bits, given)

@@ -1,6 +1,6 @@
 // How the levels of an unused source are made: the chain is walked down once, from its last key to K_2.
 ghost use Rattle.std.specs.Prelude.{◌≡◌, ◌≤◌};
-ghost use Rattle.chain.specs.Chain.{step as step_of_lem};
+ghost use Rattle.chain.specs.Chain.{step as step_of};
 ghost use Rattle.pebbles.specs.Levels.{levels_after};
 
 use chain::down;
@@ -9,7 +9,7 @@ use pebbles::Level;
 
 pub(super) fn unused<B: Block>(last: Key, bits: u32) -> [Level<Key>; 12]
     requires { (1 ≤ bits) × (bits ≤ 12) }
-    ensures { result ≡ levels_after (step_of_lem make) last bits 12 0 }
+    ensures { result ≡ levels_after (step_of B.make) last bits 12 0 }
 {
     let n: u32 = 1 << bits;
     let mut levels = [Level {

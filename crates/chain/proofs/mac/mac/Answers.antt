@@ -9,7 +9,7 @@ use Rattle.chain.proofs.mac.mac.Goals as goal
 
 pub loop-part-init : goal.loop-part-init
 loop-part-init g c = (
-  ap chunks_size c.into_iter-part-iterator.ensures.into-iter-gives ∙ c.chunks-part-items.ensures.size ∙ c.width.ensures,
+  ap chunks_size c.into_iter-part-iterator.ensures.into_iter_gives ∙ c.chunks-part-items.ensures.size ∙ c.width.ensures,
   c.begun-last.type_inv.1.0.1,
   refl,
 )
@@ -48,7 +48,7 @@ returns g c =
     front_of w encrypt block c.begun-last.result narrow wide c.begun-last.type_inv.1.0.1 c.begun-last.ensures ∙ ap encrypt (take_at size _ w long ∙ sym (zeros_xor w size long)) in
     let none : chunks_rest c.loop-part.part-iterator ≡ [] = nil_from_length _ c.in-None.ensures.steps.1.0 in
     let whole : chunks_rest c.into_iter-part-iterator.result ≡ message =
-    ap chunks_rest c.into_iter-part-iterator.ensures.into-iter-gives ∙ c.chunks-part-items.ensures.rest in
+    ap chunks_rest c.into_iter-part-iterator.ensures.into_iter_gives ∙ c.chunks-part-items.ensures.rest in
     let ended : take w c.loop-part.last ≡ mac w encrypt message =
     ap (chained encrypt (take w c.loop-part.last)) (sym (ap (blocks w) none ∙ blocks_none w)) ∙ c.loop-part.invariant.2 ∙ (λ i. chained encrypt (first i) (blocks w (whole i))) in
     c.front.ensures ∙ sym (take-take 8 w c.loop-part.last m.make.at_least) ∙ ap (take 8) ended
