@@ -1,5 +1,5 @@
 // The line for a packet that went out: when, which one, whether it is true, and then its payload.
-use hex::Readable;
+use byte_text::Readable;
 use inputs::Time;
 use node::Released;
 use playback::Moment;

@@ -3,7 +3,7 @@
 #![tactic(auto)]
 
 use capture::{Record, Records};
-use hex::Readable;
+use byte_text::Readable;
 use inputs::{Fault, Time, Unread, standard_input, tell};
 use playback::{MAX_CAPTURE, open};
 use std::io;

@@ -5,7 +5,7 @@ use crate::words::{Sent, show_refusal};
 use anyhow::anyhow;
 use base::Base;
 use cipher::{Key, Rc5};
-use hex::Readable;
+use byte_text::Readable;
 use node::{Reading, Receiver, Released, Requesting};
 use source::Pebbled;
 use std::alloc::{AllocError, Global};

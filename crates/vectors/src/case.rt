@@ -1,7 +1,7 @@
 // A case: what a line asks for, and how it is read.
 use crate::fault::{Fault, Trouble};
 use cipher::Key;
-use hex::parse;
+use byte_text::parse;
 use std::alloc::Global;
 
 #[derive(Clone, Copy)]

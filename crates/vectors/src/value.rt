@@ -2,7 +2,7 @@
 use crate::case::{Case, Make, Task};
 use chain::{derive, down, tag};
 use cipher::{Block, Key};
-use hex::Hex;
+use byte_text::Hex;
 use packet::{Answer, Data, Disclosure, Packet, Request, read};
 use refusal::Refusal;
 use source::{KeySource, Pebbled, Table};

@@ -4,8 +4,8 @@
 
 ghost use Rattle.std.specs.Prelude.{◌≡◌, IfOk, vec_items};
 ghost use Rattle.std.specs.Option.{option_map};
-ghost use Rattle.hex.specs.Text.{byte_of, bytes_of};
-ghost use Rattle.hex.specs.Plain.{plain, all_plain};
+ghost use Rattle.byte_text.specs.Text.{byte_of, bytes_of};
+ghost use Rattle.byte_text.specs.Plain.{plain, all_plain};
 
 use std::alloc::{AllocError, Global};
 use std::fmt;

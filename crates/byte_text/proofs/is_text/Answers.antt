@@ -1,6 +1,6 @@
 use Rattle.std.proofs.Common.{◌≡◌, ℕ, ◌+◌, ◌<◌, ◌≤◌, Bool, true, false, ◌&&◌, List, length, get_or, drop, sym, ap, ◌∙◌, add-one, arith, drop_of_length-le, drop-cons}
-use Rattle.hex.specs.Plain.{plain, all_plain}
-use Rattle.hex.proofs.is_text.Goals as goal
+use Rattle.byte_text.specs.Plain.{plain, all_plain}
+use Rattle.byte_text.proofs.is_text.Goals as goal
 
 next : (xs : List ℕ) (i : ℕ) → i < length xs → all_plain (drop i xs) ≡ plain (get_or xs i 0) && all_plain (drop (i + 1) xs)
 unfolding all_plain

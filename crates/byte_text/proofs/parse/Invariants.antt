@@ -1,7 +1,7 @@
 use Rattle.std.proofs.Common.{◌≡◌, length, vec_items}
-use Rattle.hex.specs.Text.{bytes_of}
-use Rattle.hex.proofs.Steps.{after}
-use Rattle.hex.proofs.parse.Given as goal
+use Rattle.byte_text.specs.Text.{bytes_of}
+use Rattle.byte_text.proofs.Steps.{after}
+use Rattle.byte_text.proofs.parse.Given as goal
 
 abbrev pub invariant-loop-rest : goal.invariant-loop-rest
 invariant-loop-rest l = after (vec_items l.bytes) (bytes_of l.rest) ≡ bytes_of l.initial.rest

@@ -1,8 +1,8 @@
 use Rattle.std.proofs.Common.{◌≡◌, ◌≤◌, [], length, drop, Some, None, vec_items, sym, refl, ap, ◌∙◌, append-nil, arith, true-eqb, false-eqb}
 use Rattle.std.proofs.lemmas.List.{nil_from_length, take_rest}
-use Rattle.hex.specs.Text.{byte_of, bytes_of, with_byte}
-use Rattle.hex.proofs.Steps.{after, after_more, after_none, bytes_next, bytes_odd}
-use Rattle.hex.proofs.parse.Goals as goal
+use Rattle.byte_text.specs.Text.{byte_of, bytes_of, with_byte}
+use Rattle.byte_text.proofs.Steps.{after, after_more, after_none, bytes_next, bytes_odd}
+use Rattle.byte_text.proofs.parse.Goals as goal
 
 pub returns-in_default : goal.returns-in_default
 returns-in_default c =

@@ -1,7 +1,7 @@
 -- One pair of digits more of a text that is read.
 use Rattle.std.proofs.Common.{◌≡◌, ℕ, ◌≤◌, List, [], ◌∷◌, ◌++◌, length, get_or, drop, Some, None, Option, sym, refl, ap, ◌∙◌, append_assoc, arith}
 use Rattle.std.specs.Option.{option_map}
-use Rattle.hex.specs.Text.{byte_of, with_byte, bytes_of}
+use Rattle.byte_text.specs.Text.{byte_of, with_byte, bytes_of}
 
 -- bytes that were read, in front of what the rest says
 abbrev pub after : List ℕ → Option (List ℕ) → Option (List ℕ)
