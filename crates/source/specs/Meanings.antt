@@ -1,6 +1,7 @@
 -- What each source means.
 use Rattle.std.specs.Prelude.{ℕ, ◌^◌, length, vec_items}
 use Rattle.cipher.specs.Blocks.{Make}
+use Rattle.cipher.specs.declared.block.Block.{Ghosts}
 use Rattle.pebbles.specs.Draws.{steps_after}
 use Rattle.source.specs.declared.pebbled.Pebbled.{Pebbled}
 use Rattle.source.specs.declared.table.Table.{Table}
@@ -21,7 +22,7 @@ stored t = record {
 }
 
 -- the keys that the rule gives, over a block; the steps are those of the rule on the levels' places and targets, in room for 12 levels
-abbrev pub stepped : {B : Type 0} → Make → Pebbled B → Source
+abbrev pub stepped : {B : Type 0} {b : Ghosts B} → Make → Pebbled B b → Source
 stepped make p = record {
   key = key_from make p.levels p.bits p.given;
   count = 2 ^ p.bits;

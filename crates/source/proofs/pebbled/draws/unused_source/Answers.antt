@@ -10,16 +10,12 @@ use Rattle.source.proofs.WholeRuns.{stepping, whole_run}
 use Rattle.source.proofs.pebbled.draws.unused_source.Goals as goal
 
 pub invariant_of-result : goal.invariant_of-result
-invariant_of-result g c = (
-  c.requires.0,
-  (
-    c.requires.1,
-    (
-      omega arith,
-      (ap (map (bare no_key)) c.unused.ensures ∙ bare_unused no_key (step g.B.Block.make) c.args.last c.args.bits 12, tt),
-    ),
-  ),
-)
+invariant_of-result g c = record {
+  least = c.requires.0;
+  most = c.requires.1;
+  within = omega arith;
+  placed = ap (map (bare no_key)) c.unused.ensures ∙ bare_unused no_key (step g.B.Block.make) c.args.last c.args.bits 12;
+}
 
 pub returns : goal.returns
 returns g c =
