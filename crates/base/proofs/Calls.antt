@@ -1,6 +1,7 @@
 -- Calls of a base that stands for a base of the rules.
 use Rattle.std.proofs.Common.{◌≡◌, ℕ, ◌≤◌, List, Some, Ok, Err, Result, sym, refl, ap, ◌∙◌, subst}
 use Rattle.refusal.specs.declared.Refusal.{Refusal}
+use Rattle.cipher.specs.declared.block.Block as block
 use Rattle.cipher.specs.Blocks.{Make}
 use Rattle.source.specs.declared.key_source.KeySource.{Ghosts}
 use Rattle.link.specs.Questions.{first_no, unless}
@@ -14,7 +15,7 @@ untouched r e s is = let P : Result ℕ Refusal → Type 0 = λ x. Untouched x s
 pub done_with : {S : Type 0} (r : Result ℕ Refusal) (n : ℕ) (s s' : S) → r ≡ Ok n → Untouched r s s'
 done_with r n s s' is = let P : Result ℕ Refusal → Type 0 = λ x. Untouched x s s' in subst P (sym is) tt
 
-module _ {B M D : Type 0} (m : Ghosts M) (d : Ghosts D) (b : Base B M D) (x : rules.Base) (means : Means m d b x) where
+module _ {B M D : Type 0} {c : block.Ghosts B} (m : Ghosts M) (d : Ghosts D) (b : Base B M D c m d) (x : rules.Base) (means : Means m d b x) where
   -- the latest reading is not before the start
   pub begun : x.setup.start ≤ x.latest
   begun =

@@ -7,6 +7,7 @@ use Rattle.std.proofs.lemmas.Bool.{cases_lt, leb-true, ltb-true, le-ltb}
 use Rattle.std.proofs.lemmas.Bool.Decides.{nat_tests}
 use Rattle.refusal.specs.declared.Refusal.{Refusal}
 use Rattle.refusal.specs.declared.Refusal.TheVariants.{BufferTooShort, NoKeyDue, ReadingOutOfOrder}
+use Rattle.cipher.specs.declared.block.Block as block
 use Rattle.cipher.specs.Blocks.{Make}
 use Rattle.cipher.specs.declared.key.Key.{Key}
 use Rattle.packet.specs.Kinds.{a_key}
@@ -103,7 +104,7 @@ module _ (b : Base) (s room n : ℕ) (later_start : b.setup.start ≤ b.latest) 
   unfolding base_then
   disclose_leaves j g = rw g.none (ap (λ z. record { setup = b.setup; latest = s; busy = b.busy; made = b.made; last = nat_abs z }) g.at)
 
-module _ {B M D : Type 0} (cipher : Make) (m : Ghosts M) (d : Ghosts D) (b : Held.Base B M D) (x : Base) (means : Means m d b x) where
+module _ {B M D : Type 0} {c : block.Ghosts B} (cipher : Make) (m : Ghosts M) (d : Ghosts D) (b : Held.Base B M D c m d) (x : Base) (means : Means m d b x) where
   abbrev n : ℕ
   n = (d.meaning b.disclosing.source).count
 
@@ -115,7 +116,7 @@ module _ {B M D : Type 0} (cipher : Make) (m : Ghosts M) (d : Ghosts D) (b : Hel
       disclose_refused x s room n (begun m d b x means) paired e (asks ∙ ap (λ k. asked (disclose_questions k n s room) (plain_due k n s)) means.same)
 
   -- a disclosure that draws on the second source until it has given the key of interval j
-  pub disclosed_call : (s j : ℕ) (out out' : List ℕ) (r : Result ℕ Refusal) (b' : Held.Base B M D) →
+  pub disclosed_call : (s j : ℕ) (out out' : List ℕ) (r : Result ℕ Refusal) (b' : Held.Base B M D c m d) →
       Ok j ≡ asked (disclose_questions (held m d b) n s (length out)) (plain_due (held m d b) n s) →
       ((d.meaning b.disclosing.source).drawn ≤ j → (d.meaning b'.disclosing.source).drawn ≡ j) →
       ((zeroth : Key) (n : ℕ) (key : ℕ → Key) → Serves d.meaning b.disclosing zeroth n key → Serves d.meaning b'.disclosing zeroth n key) →

@@ -4,6 +4,7 @@ use lib.Signed.{le_z}
 use Rattle.std.proofs.lemmas.Bool.{and_parts, leb-true, ltb-true}
 use Rattle.refusal.specs.declared.Refusal.{Refusal}
 use Rattle.refusal.specs.declared.Refusal.TheVariants.{BufferTooShort, IntervalFull, NoSuchInterval, ReadingOutOfOrder, TooLong}
+use Rattle.cipher.specs.declared.block.Block as block
 use Rattle.cipher.specs.Blocks.{Make}
 use Rattle.cipher.specs.declared.key.Key.{Key}
 use Rattle.packet.specs.Kinds.{a_data}
@@ -84,14 +85,14 @@ module _ (b : Base) (s : ℕ) (payload : List ℕ) (room : ℕ) (later_start : b
   unfolding base_then
   make_leaves m g = rw g.none (ap (λ z. record { setup = b.setup; latest = s; busy = nat_abs z; made = made_in b (nat_abs z) + 1; last = b.last }) g.at)
 
-pub unmade : {B M D : Type 0} (m : Ghosts M) (d : Ghosts D) (b : Held.Base B M D) (x : Base) → Means m d b x → (s : ℕ) (payload : List ℕ) (room : ℕ) (e : Refusal) →
+pub unmade : {B M D : Type 0} {c : block.Ghosts B} (m : Ghosts M) (d : Ghosts D) (b : Held.Base B M D c m d) (x : Base) → Means m d b x → (s : ℕ) (payload : List ℕ) (room : ℕ) (e : Refusal) →
     Err e ≡ asked (make_questions (held m d b) s (length payload) room) (plain_interval (held m d b) s) → first_no (base_questions x (to_make s payload room)) ≡ Some e
 unmade m d b x means s payload room e asks =
     make_refused x s payload room (begun m d b x means) e (asks ∙ ap (λ k. asked (make_questions k s (length payload) room) (plain_interval k s)) means.same)
 
-module _ {B M D : Type 0} (cipher : Make) (m : Ghosts M) (d : Ghosts D) (b : Held.Base B M D) (x : Base) (means : Means m d b x) where
+module _ {B M D : Type 0} {c : block.Ghosts B} (cipher : Make) (m : Ghosts M) (d : Ghosts D) (b : Held.Base B M D c m d) (x : Base) (means : Means m d b x) where
   -- a make that draws on the first source until it has given the key of interval i
-  pub made_call : (s i n : ℕ) (payload out out' : List ℕ) (r : Result ℕ Refusal) (b' : Held.Base B M D) →
+  pub made_call : (s i n : ℕ) (payload out out' : List ℕ) (r : Result ℕ Refusal) (b' : Held.Base B M D c m d) →
       Ok i ≡ asked (make_questions (held m d b) s (length payload) (length out)) (plain_interval (held m d b) s) → n ≡ made_at (held m d b) i →
       ((m.meaning b.making.source).drawn ≤ i → (m.meaning b'.making.source).drawn ≡ i) →
       ((zeroth : Key) (n : ℕ) (key : ℕ → Key) → Serves m.meaning b.making zeroth n key → Serves m.meaning b'.making zeroth n key) →

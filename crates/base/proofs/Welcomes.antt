@@ -2,6 +2,7 @@
 use Rattle.std.proofs.Common.{◌≡◌, ℕ, ◌+◌, ◌*◌, Bool, true, false, cond, ◌&&◌, eqb, leb, List, ◌++◌, length, Some, None, Ok, Err, Result, sym, ap, ◌∙◌, subst, arith}
 use Rattle.refusal.specs.declared.Refusal.{Refusal}
 use Rattle.refusal.specs.declared.Refusal.TheVariants.{NotThisKind, WrongLength}
+use Rattle.cipher.specs.declared.block.Block as block
 use Rattle.cipher.specs.Blocks.{Make}
 use Rattle.cipher.specs.declared.key.Key.{Key}
 use Rattle.packet.specs.Kinds.{Request, an_answer}
@@ -47,7 +48,7 @@ module _ (x : Base) (s : ℕ) (pair : Key) (bytes : List ℕ) (room : ℕ) where
   unfolding base_then
   answer_leaves none = rw none
 
-module _ {B M D : Type 0} (cipher : Make) (m : Ghosts M) (d : Ghosts D) (b : Held.Base B M D) (x : Base) (means : Means m d b x) where
+module _ {B M D : Type 0} {c : block.Ghosts B} (cipher : Make) (m : Ghosts M) (d : Ghosts D) (b : Held.Base B M D c m d) (x : Base) (means : Means m d b x) where
   abbrev drawn : ℕ
   drawn = (d.meaning b.disclosing.source).drawn
 
@@ -56,7 +57,7 @@ module _ {B M D : Type 0} (cipher : Make) (m : Ghosts M) (d : Ghosts D) (b : Hel
   unanswered s pair bytes room q e read asks =
       behind_read x s pair bytes room q read ∙ refused_by (answer_questions (numbers x) s room) (tt {0}) e (asks ∙ ap (λ k. asked (answer_questions k s room) (tt {0})) means.same)
 
-  pub answered_call : (s : ℕ) (pair : Key) (bytes out out' : List ℕ) (q : Request) (r : Result ℕ Refusal) (b' : Held.Base B M D) →
+  pub answered_call : (s : ℕ) (pair : Key) (bytes out out' : List ℕ) (q : Request) (r : Result ℕ Refusal) (b' : Held.Base B M D c m d) →
       Ok q ≡ read_request bytes → Ok (tt {0}) ≡ asked (answer_questions (held m d b) s (length out)) (tt {0}) →
       b'.making ≡ b.making → b'.disclosing ≡ b.disclosing → b'.start ≡ b.start → b'.duration ≡ b.duration → b'.delay ≡ b.delay → b'.latest ≡ s → b'.made ≡ b.made →
       r ≡ Ok 48 →

@@ -16,9 +16,9 @@ pub struct Drawing<S: KeySource> {
 impl<S: KeySource> Drawing<S> {
     // Draws until the key of an interval was given, and passes over those before it.
     pub(crate) fn draw_to(&mut self, interval: u32)
-        requires { interval ≤ (meaning self.old.source).count }
-        ensures given { (meaning self.old.source).drawn ≤ interval → (meaning self.new.source).drawn ≡ interval }
-        ensures serves { (zeroth : AnyKey) (n : ℕ) (key : ℕ → AnyKey) → Serves meaning self.old zeroth n key → Serves meaning self.new zeroth n key }
+        requires { interval ≤ (S.meaning self.old.source).count }
+        ensures given { (S.meaning self.old.source).drawn ≤ interval → (S.meaning self.new.source).drawn ≡ interval }
+        ensures serves { (zeroth : AnyKey) (n : ℕ) (key : ℕ → AnyKey) → Serves S.meaning self.old zeroth n key → Serves S.meaning self.new zeroth n key }
     {
         while self.source.given() < interval {
             match self.source.next() {

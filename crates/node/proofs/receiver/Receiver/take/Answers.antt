@@ -45,7 +45,7 @@ invariant_of-self g c =
     let self = c.args.self.now in
     let done = take_done cipher (meaning self) c.args.at.0 c.args.bytes.now (data_said c.in_ok-packet.packet) (held c.add.new.self) c.in_ok-packet.ensures (asked_yes _ _ c.in_ok-may_take.ensures) c.add.ensures.held in
     let sound = sound_then cipher (meaning self) (to_take c.args.at.0 c.args.bytes.now) _ done.1 (record { apart = self.apart; due = self.due }) in
-    (c.add.ensures.count, (sound.apart, (sound.due, tt)))
+    record { within = c.add.ensures.count; apart = sound.apart; due = sound.due }
 
 pub returns : goal.returns
 returns g c =

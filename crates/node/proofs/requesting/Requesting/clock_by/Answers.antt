@@ -12,4 +12,4 @@ offset-requires c =
 pub invariant_of-result : goal.invariant_of-result
 invariant_of-result c =
     let within = schedule_within (answer_said c.args.answer.now) c.requires.1 in
-    (within.lasting, (omega arith, (omega (arith, ints), (omega (arith, ints), tt))))
+    record { lasting = within.lasting; started = omega arith; least = omega (arith, ints); most = omega (arith, ints) }

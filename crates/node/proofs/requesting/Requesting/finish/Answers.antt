@@ -22,7 +22,7 @@ invariant_of-result g c =
     let granted = welcomed_ok _ _ _ c.in-Ok.ensures in
     let gives = finish_gives cipher node t bytes (answer_said c.in-Ok.answer) granted.0 granted.1 (clock_of c.clock_by.result) c.from_bytes.result (held c.new.result) c.clock_by.ensures c.from_bytes.ensures.value c.new.ensures.held in
     let sound = joined_sound cipher node t bytes _ gives in
-    (c.new.ensures.count, (sound.apart, (sound.due, tt)))
+    record { within = c.new.ensures.count; apart = sound.apart; due = sound.due }
 
 pub returns-in-Ok : goal.returns-in-Ok
 returns-in-Ok g c =
