@@ -10,5 +10,5 @@ pub returns : goal.returns
 returns c =
     let o = record_said c.args.order.now in
     let long : length (take ((c.args.written + 16 + length c.args.order.now.bytes.now) - c.args.written) (drop c.args.written c.args.out.now)) ≡ record_length o = simp (length-take, length-drop) (omega arith) in
-    let wrote = wrote_order o _ _ _ _ c.requires.0 long c.write.ensures.value c.write.ensures.after c.unwrap-length.ensures in
+    let wrote = wrote_order o _ _ _ _ c.requires.regular long c.write.ensures.value c.write.ensures.after c.unwrap-length.ensures in
     record { value = ap (λ n. c.args.written + n) wrote.0; after = puts_mid _ _ _ _ _ (omega (arith, length_record_bytes Little o)) wrote.1 }
