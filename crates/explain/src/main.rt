@@ -15,10 +15,14 @@ use packet::MAX_PAYLOAD;
 use playback::{MAX_CAPTURE, Step, Walk, open};
 use std::io;
 use std::io::{BufWriter, Stdout, Write};
+use std::process::ExitCode;
 use tally::Tally;
 
-fn main(rt: HostRuntime) -> Result<(), Fault> {
-    tell(&rt, "explain", run(&rt))
+fn main(rt: HostRuntime) -> ExitCode {
+    match tell(&rt, "explain", run(&rt)) {
+        Ok(()) => ExitCode::SUCCESS,
+        Err(_) => ExitCode::FAILURE,
+    }
 }
 
 fn run(rt: &HostRuntime) -> Result<(), Fault> {

@@ -2,15 +2,19 @@
 
 #![tactic(auto)]
 
-use capture::{Record, Records};
 use byte_text::Readable;
+use capture::{Record, Records};
 use inputs::{Fault, Time, Unread, standard_input, tell};
 use playback::{MAX_CAPTURE, open};
 use std::io;
 use std::io::{BufWriter, Stdout, Write};
+use std::process::ExitCode;
 
-fn main(rt: HostRuntime) -> Result<(), Fault> {
-    tell(&rt, "orders", run(&rt))
+fn main(rt: HostRuntime) -> ExitCode {
+    match tell(&rt, "orders", run(&rt)) {
+        Ok(()) => ExitCode::SUCCESS,
+        Err(_) => ExitCode::FAILURE,
+    }
 }
 
 fn run(rt: &HostRuntime) -> Result<(), Fault> {

@@ -5,9 +5,13 @@
 use inputs::{Fault, key_file, key_of, standard_input, tell};
 use playback::{MAX_CAPTURE, replay};
 use std::io::Write;
+use std::process::ExitCode;
 
-fn main(rt: HostRuntime) -> Result<(), Fault> {
-    tell(&rt, "replay", run(&rt))
+fn main(rt: HostRuntime) -> ExitCode {
+    match tell(&rt, "replay", run(&rt)) {
+        Ok(()) => ExitCode::SUCCESS,
+        Err(_) => ExitCode::FAILURE,
+    }
 }
 
 fn run(rt: &HostRuntime) -> Result<(), Fault> {
