@@ -1,4 +1,4 @@
-"""Random cases through target/bin/vectors, against the model: random_cases.py [COUNT [SEED]]. Run it after `rt check`."""
+"""Random cases through the program `vectors`, against the model: random_cases.py [COUNT [SEED]]. Run it after `rt run` in crates/vectors."""
 import pathlib
 import random
 import subprocess
@@ -6,7 +6,7 @@ import sys
 
 from cases import Sheet, random_case, value
 
-BINARY = pathlib.Path(__file__).resolve().parent.parent / 'target' / 'bin' / 'vectors'
+BINARY = pathlib.Path(__file__).resolve().parent.parent / 'crates' / 'vectors' / 'out' / 'vectors'
 
 
 def main():

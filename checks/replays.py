@@ -1,7 +1,7 @@
 """Captures through the programs `replay` and `explain`, against the model: replays.py [COUNT [SEED [FOLDER]]].
 
-COUNT random captures, 200 if it is not given, after those that are always tried; FOLDER holds the programs, target/bin
-if it is not given. The first difference ends it."""
+COUNT random captures, 200 if it is not given, after those that are always tried; FOLDER holds the programs. If it is not
+given, they are those that `rt run` or `rt ci` left in crates/NAME/out. The first difference ends it."""
 import pathlib
 import random
 import re
@@ -319,11 +319,11 @@ def in_rows(program, output):
 class Programs:
     """the two programs, run in a folder of their own"""
 
-    def __init__(self, folder, work):
-        self.folder, self.work, self.compared, self.failed = folder, work, 0, 0
+    def __init__(self, files, work):
+        self.files, self.work, self.compared, self.failed = files, work, 0, 0
 
     def run(self, program, capture):
-        return subprocess.run([self.folder / program], input=capture, capture_output=True, cwd=self.work, timeout=60)
+        return subprocess.run([self.files[program]], input=capture, capture_output=True, cwd=self.work, timeout=60)
 
     def differ(self, name, program, capture, wanted, ran):
         """ends the check: what was given and what came of it stays in a folder"""
@@ -416,14 +416,16 @@ class Programs:
 def main():
     count = int(sys.argv[1]) if len(sys.argv) > 1 else 200
     seed = int(sys.argv[2]) if len(sys.argv) > 2 else random.SystemRandom().randrange(2 ** 32)
-    folder = pathlib.Path(sys.argv[3] if len(sys.argv) > 3 else ROOT / 'target' / 'bin').resolve()
-    for program in ('replay', 'explain'):
-        if not (folder / program).exists():
-            sys.exit(f'{folder / program} is not there')
+    folder = pathlib.Path(sys.argv[3]).resolve() if len(sys.argv) > 3 else None
+    files = {program: folder / program if folder else ROOT / 'crates' / program / 'out' / program
+             for program in ('replay', 'explain')}
+    for file in files.values():
+        if not file.exists():
+            sys.exit(f'{file} is not there')
     print(f'replays: seed {seed}')
     rng = random.Random(seed)
     with tempfile.TemporaryDirectory() as work:
-        programs = Programs(folder, pathlib.Path(work))
+        programs = Programs(files, pathlib.Path(work))
         for name, pair, capture in always():
             programs.compare(name, pair, capture)
         texts = ['\n'.join(programs.compare(f'random capture {x + 1} of seed {seed}', *random_capture(rng)))

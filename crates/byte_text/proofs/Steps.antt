@@ -1,5 +1,5 @@
 -- One pair of digits more of a text that is read.
-use Rattle.std.proofs.Common.{◌≡◌, ℕ, ◌≤◌, List, [], ◌∷◌, ◌++◌, length, get_or, drop, Some, None, Option, sym, refl, ap, ◌∙◌, append_assoc, arith}
+use Rattle.std.proofs.Common.{◌≡◌, ℕ, ◌≤◌, List, [], ◌∷◌, ◌++◌, length, get_or, drop, Some, None, Option, refl, ap, append_assoc, arith}
 use Rattle.std.specs.Option.{option_map}
 use Rattle.byte_text.specs.Text.{byte_of, with_byte, bytes_of}
 

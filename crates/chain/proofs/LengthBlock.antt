@@ -1,5 +1,5 @@
 -- A length below 65,536 as a big-endian block: zeros, then its two bytes.
-use Rattle.std.proofs.Common.{◌≡◌, ℕ, zero, suc, ◌+◌, ◌-◌, ◌/◌, ◌%◌, ◌<◌, ◌≤◌, List, [], ◌∷◌, ◌++◌, reverse, set, replicate, sym, refl, ap, ◌∙◌, append_assoc, suc-add, zero-add, add-one, arith}
+use Rattle.std.proofs.Common.{◌≡◌, ℕ, zero, suc, ◌+◌, ◌-◌, ◌/◌, ◌%◌, ◌<◌, ◌≤◌, [], ◌∷◌, ◌++◌, reverse, set, replicate, sym, refl, ap, ◌∙◌, append_assoc, suc-add, zero-add, add-one, arith}
 use Rattle.std.proofs.lemmas.List.{reverse-append, replicate_more}
 use Rattle.cipher.specs.Bytes.{to_le, to_be}
 

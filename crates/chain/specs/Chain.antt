@@ -1,5 +1,5 @@
 -- Keys derived from keys, and the one-way chain of them, over any block cipher.
-use Rattle.std.specs.Prelude.{ℕ, zero, suc, List, [], ◌∷◌, ◌++◌}
+use Rattle.std.specs.Prelude.{ℕ, zero, suc, [], ◌∷◌, ◌++◌}
 use Rattle.cipher.specs.Blocks.{Make}
 use Rattle.cipher.specs.Keys.{key_of}
 use Rattle.cipher.specs.declared.key.Key.{Key}

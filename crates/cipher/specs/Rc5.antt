@@ -1,5 +1,5 @@
 -- RC5-32/12/16 as its paper has it: words of 32 bits, 12 rounds, a key of 16 bytes.
-use Rattle.std.specs.Prelude.{ℕ, zero, suc, ◌+◌, ◌-◌, ◌*◌, ◌/◌, ◌%◌, ◌^◌, List, [], ◌∷◌, ◌++◌, map, take, drop, set, bit_or, bit_xor, slice_index_or, slice_set}
+use Rattle.std.specs.Prelude.{ℕ, zero, suc, ◌+◌, ◌-◌, ◌*◌, ◌/◌, ◌%◌, ◌^◌, List, [], ◌∷◌, ◌++◌, map, take, drop, bit_or, bit_xor, slice_index_or, slice_set}
 use Rattle.std.specs.List.{range_with_len}
 use Rattle.cipher.specs.Bytes.{from_le, to_le}
 use Rattle.cipher.specs.declared.rc5.Mixing.{Mixing}

@@ -11,7 +11,7 @@ use Rattle.packet.specs.Kinds.{Data, Disclosure}
 use Rattle.packet.specs.Reading.{of_length, of_kind, is_kind, read_data, read_key, data_of, disclosure_of}
 use Rattle.link.specs.Questions.{Question, first_no, unless}
 use Rattle.link.specs.Reception.{World, State, Deed, Sound, refuses, takes, adopts, take_questions, key_questions, next}
-use Rattle.link.specs.Receiver.{Receiver, Call, Answer, refused, holds, steps, to_take, to_key, world, reading, deed, told, answer, then}
+use Rattle.link.specs.Receiver.{Receiver, Call, refused, holds, steps, to_take, to_key, world, reading, deed, told, answer, then}
 use Rattle.link.proofs.Asking.{all_yes}
 use Rattle.link.proofs.Receivers.{then_sound}
 use Rattle.node.specs.Answers.{asked}

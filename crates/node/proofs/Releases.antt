@@ -1,18 +1,17 @@
 -- A release: which packet goes out, and what is left.
-use Rattle.std.proofs.Common.{◌≡◌, ℕ, suc, ◌+◌, ◌<◌, ◌≤◌, Bool, true, false, not, leb, List, [], ◌∷◌, ◌++◌, length, get_or, take, drop, filter, sym, refl, ap, ◌∙◌, subst, add-one, arith}
+use Rattle.std.proofs.Common.{◌≡◌, ℕ, suc, ◌<◌, ◌≤◌, Bool, true, not, List, [], ◌∷◌, ◌++◌, length, get_or, take, drop, filter, sym, refl, ap, ◌∙◌, subst, add-one, arith}
 use Rattle.std.specs.List.{remove}
 use Rattle.std.proofs.lemmas.List.Elements.{filter-append}
 use Rattle.std.proofs.lemmas.List.{length-append, take-append-drop, drop_more}
-use Rattle.std.proofs.lemmas.Bool.{le-leb, lt-leb, not_from_true}
+use Rattle.std.proofs.lemmas.Bool.{le-leb, lt-leb}
 use Rattle.refusal.specs.declared.Refusal.TheVariants.{BufferTooShort}
 use Rattle.cipher.specs.Blocks.{Make}
 use Rattle.cipher.specs.declared.key.Key.{Key}
 use Rattle.packet.specs.Kinds.{Data}
 use Rattle.packet.specs.Writing.{filled}
 use Rattle.packet.proofs.BufferLaws.{filled_none}
-use Rattle.link.specs.Questions.{unless, first_no}
-use Rattle.link.specs.Reception.{Deed, State, refuses, releases, rests, known, right_now, first_out, others}
-use Rattle.link.specs.Receiver.{Receiver, Call, Answer, to_release, world, deed, told, out_of, same_packet, answer, then}
+use Rattle.link.specs.Reception.{Deed, refuses, releases, rests, known, right_now, first_out, others}
+use Rattle.link.specs.Receiver.{Receiver, Call, Answer, to_release, world, deed, told, same_packet, answer, then}
 use Rattle.link.proofs.Keeping.{kept_none, empty_list}
 use Rattle.link.proofs.Receivers.{packet_decides}
 use Rattle.node.specs.Answers.{written}

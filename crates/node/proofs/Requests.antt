@@ -1,12 +1,10 @@
 -- A request: what it answers, and what it leaves in the buffer.
-use Rattle.std.proofs.Common.{◌≡◌, ℕ, ◌^◌, Bool, true, false, cond, leb, List, [], length, Ok, Err, Result, sym, refl, ap, ◌∙◌}
+use Rattle.std.proofs.Common.{◌≡◌, ℕ, ◌^◌, Bool, true, false, cond, leb, List, length, Ok, Err, Result, sym, refl, ap, ◌∙◌}
 use Rattle.refusal.specs.declared.Refusal.{Refusal}
 use Rattle.refusal.specs.declared.Refusal.TheVariants.{ReadingOutOfOrder, OutOfLimits, BufferTooShort}
 use Rattle.packet.specs.Kinds.{Packet, a_request}
 use Rattle.packet.specs.Reading.{told}
-use Rattle.packet.specs.Writing.{filled, write_packet}
-use Rattle.packet.specs.Layouts.{packet_bytes}
-use Rattle.link.specs.Questions.{first_no, unless}
+use Rattle.packet.specs.Writing.{write_packet}
 use Rattle.link.specs.Reception.{in_order}
 use Rattle.link.specs.Join.{Node, request}
 use Rattle.node.specs.Nodes.{to_send, leaves}

@@ -1,5 +1,5 @@
 -- What a schedule that fits is within.
-use Rattle.std.proofs.Common.{◌≡◌, ◌^◌, ◌<◌, ◌≤◌, true, ◌&&◌, ltb, leb}
+use Rattle.std.proofs.Common.{◌≡◌, ◌^◌, ◌<◌, ◌≤◌, true, ltb, leb}
 use Rattle.std.proofs.lemmas.Bool.{and_parts, leb-true, ltb-true}
 use Rattle.packet.specs.Kinds.{Answer}
 use Rattle.link.specs.Join.{schedule_fits}

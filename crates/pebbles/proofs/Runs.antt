@@ -1,5 +1,5 @@
 -- Over a whole run the levels of a pebbled key source stand in the closed form, so each answer is the chain's key, by at most k steps.
-use Rattle.std.proofs.Common.{◌≡◌, ℕ, zero, suc, ◌+◌, ◌-◌, ◌*◌, ◌%◌, ◌^◌, ◌<◌, ◌≤◌, Bool, true, false, cond, eqb, leb, map, Some, sym, refl, ap, ◌∙◌, subst, ap₂, ⊎_elim, le_refl, mul-one, arith, pow_pos, pow_mono}
+use Rattle.std.proofs.Common.{◌≡◌, ℕ, zero, suc, ◌+◌, ◌-◌, ◌*◌, ◌%◌, ◌^◌, ◌<◌, ◌≤◌, Bool, true, false, cond, eqb, leb, map, Some, sym, refl, ap, ◌∙◌, subst, ap₂, ⊎_elim, mul-one, arith, pow_pos, pow_mono}
 use native.Mathlib.Nat.{sub_self}
 use Rattle.std.proofs.lemmas.Nat.{pow_below}
 use Rattle.std.proofs.lemmas.Bool.{cases_lt, cond-true, cond-false, eqb-false, leb-true, leb-false, le-leb, lt-leb}
@@ -8,9 +8,9 @@ use Rattle.pebbles.specs.Levels.{Levels, call, call_after, down, first_level, ke
 use Rattle.pebbles.specs.Places.{away_at, next_target, pebble, served, since, standing, standing_after, standing_levels}
 use Rattle.pebbles.specs.Runs.{Kept, Ready, Run}
 use Rattle.pebbles.proofs.Calls.{Good, call_good, even_form, odd_form}
-use Rattle.pebbles.proofs.Places.{served_is, since_is, standing_anew, target_stride}
+use Rattle.pebbles.proofs.Places.{served_is, since_is, target_stride}
 use Rattle.pebbles.proofs.Ready.{row_lowered, row_ready}
-use Rattle.pebbles.proofs.Rows.{row_at, row_nth, same_row}
+use Rattle.pebbles.proofs.Rows.{row_nth, same_row}
 use Rattle.pebbles.proofs.Strides.{even_power, stride_of_room}
 
 -- a level that stands in the closed form, and is not put away, has the key of its place

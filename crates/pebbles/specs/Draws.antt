@@ -1,5 +1,5 @@
 -- Levels without their keys, and the keys that the calls from some state on give.
-use Rattle.std.specs.Prelude.{◌≡◌, ℕ, zero, suc, ◌+◌, ◌^◌, List, [], ◌∷◌, map, Some, None, Option}
+use Rattle.std.specs.Prelude.{◌≡◌, ℕ, zero, suc, ◌+◌, List, [], ◌∷◌, map, Some, None, Option}
 use Rattle.pebbles.specs.declared.level.Level.{Level}
 use Rattle.pebbles.specs.Levels.{Levels, call, call_after, levels_after}
 

@@ -1,5 +1,5 @@
 -- What holds of a pebbled key source over a whole run from an unused one.
-use Rattle.std.specs.Prelude.{◌≡◌, ℕ, ◌+◌, ◌-◌, ◌*◌, ◌%◌, ◌^◌, ◌<◌, ◌≤◌, map, Some, count_by}
+use Rattle.std.specs.Prelude.{◌≡◌, ℕ, ◌+◌, ◌*◌, ◌%◌, ◌^◌, ◌<◌, ◌≤◌, map, Some, count_by}
 use Rattle.pebbles.specs.declared.level.Level.{Level}
 use Rattle.pebbles.specs.Levels.{Levels, call_after, key_at, level, levels_after, lowered, moves, zeros}
 use Rattle.pebbles.specs.Places.{pebble, standing_levels}

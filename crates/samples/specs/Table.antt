@@ -1,5 +1,5 @@
 -- The sample table: known values of the definitions, one row for each.
-use Rattle.std.specs.Prelude.{◌≡◌, ℕ, List, [], ◌∷◌, map, replicate, Ok}
+use Rattle.std.specs.Prelude.{◌≡◌, ℕ, List, [], map, replicate, Ok}
 use Rattle.std.specs.List.{range_with_len}
 use Rattle.cipher.specs.declared.key.Key.{Key}
 use Rattle.cipher.specs.Keys.{key_bytes}

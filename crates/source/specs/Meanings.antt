@@ -1,5 +1,5 @@
 -- What each source means.
-use Rattle.std.specs.Prelude.{ℕ, ◌^◌, length, vec_items}
+use Rattle.std.specs.Prelude.{◌^◌, length, vec_items}
 use Rattle.cipher.specs.Blocks.{Make}
 use Rattle.cipher.specs.declared.block.Block.{Ghosts}
 use Rattle.pebbles.specs.Draws.{steps_after}

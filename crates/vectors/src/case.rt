@@ -1,7 +1,7 @@
 // A case: what a line asks for, and how it is read.
 use crate::fault::{Fault, Trouble};
-use cipher::Key;
 use byte_text::parse;
+use cipher::Key;
 use std::alloc::Global;
 
 #[derive(Clone, Copy)]

@@ -1,8 +1,8 @@
 // The value of a case, computed by the proved libraries.
 use crate::case::{Case, Make, Task};
+use byte_text::Hex;
 use chain::{derive, down, tag};
 use cipher::{Block, Key};
-use byte_text::Hex;
 use packet::{Answer, Data, Disclosure, Packet, Request, read};
 use refusal::Refusal;
 use source::{KeySource, Pebbled, Table};

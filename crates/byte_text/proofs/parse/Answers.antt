@@ -1,6 +1,6 @@
-use Rattle.std.proofs.Common.{◌≡◌, ◌≤◌, [], length, drop, Some, None, vec_items, sym, refl, ap, ◌∙◌, append-nil, arith, true-eqb, false-eqb}
+use Rattle.std.proofs.Common.{length, drop, Some, vec_items, sym, ap, ◌∙◌, append-nil, arith, true-eqb, false-eqb}
 use Rattle.std.proofs.lemmas.List.{nil_from_length, take_rest}
-use Rattle.byte_text.specs.Text.{byte_of, bytes_of, with_byte}
+use Rattle.byte_text.specs.Text.{bytes_of, with_byte}
 use Rattle.byte_text.proofs.Steps.{after, after_more, after_none, bytes_next, bytes_odd}
 use Rattle.byte_text.proofs.parse.Goals as goal
 

@@ -1,4 +1,4 @@
-use Rattle.std.proofs.Common.{◌≡◌, List, [], ◌∷◌, ◌++◌, take, ap, ◌∙◌}
+use Rattle.std.proofs.Common.{[], ◌∷◌, ◌++◌, take, ap, ◌∙◌}
 use Rattle.cipher.specs.Keys.{key_of}
 use Rattle.chain.specs.Tag.{mac, tag}
 use Rattle.chain.specs.Chain.{derive}

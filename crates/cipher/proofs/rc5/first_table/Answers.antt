@@ -1,6 +1,6 @@
 use Rattle.std.proofs.Common.{◌≡◌, ◌-◌, ◌++◌, take, sym, refl, ap, ◌∙◌, append-nil, arith, length-set}
 use Rattle.std.proofs.lemmas.List.{take_all}
-use Rattle.cipher.specs.Rc5.{◌⊞◌, progression}
+use Rattle.cipher.specs.Rc5.{progression}
 use Rattle.cipher.proofs.Rc5Laws.{progression_next}
 use Rattle.cipher.proofs.rc5.first_table.Goals as goal
 

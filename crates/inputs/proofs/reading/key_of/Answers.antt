@@ -1,4 +1,4 @@
-use Rattle.std.proofs.Common.{◌≡◌, ◌∙◌, arith, take_all}
+use Rattle.std.proofs.Common.{◌∙◌, arith, take_all}
 use Rattle.inputs.proofs.reading.key_of.Goals as goal
 
 -- the first 16 bytes of 16 are all of them

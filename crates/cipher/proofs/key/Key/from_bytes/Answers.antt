@@ -1,4 +1,4 @@
-use Rattle.std.proofs.Common.{◌≡◌, sym, ap, ◌∙◌}
+use Rattle.std.proofs.Common.{sym, ap, ◌∙◌}
 use Rattle.cipher.specs.Keys.{key_bytes, key_of}
 use Rattle.cipher.proofs.ByteLaws.{spelled, array_bytes}
 use Rattle.cipher.proofs.KeyLaws.{key_bytes_of}

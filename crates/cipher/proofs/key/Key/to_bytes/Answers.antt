@@ -1,4 +1,4 @@
-use Rattle.std.proofs.Common.{◌≡◌, ℕ, List, ◌++◌, map, get_or, sym, ap, ◌∙◌}
+use Rattle.std.proofs.Common.{◌≡◌, ℕ, List, ◌++◌, map, get_or, ap, ◌∙◌}
 use Rattle.std.specs.List.{range_with_len}
 use Rattle.cipher.specs.Keys.{key_bytes, key_of}
 use Rattle.cipher.proofs.ByteLaws.{to_be_8}

@@ -1,6 +1,5 @@
-use Rattle.std.proofs.Common.{◌≡◌, ℕ, List, [], ◌∷◌, length, take, drop, sym, refl, ap, ◌∙◌}
+use Rattle.std.proofs.Common.{[], ◌∷◌, length, take, drop, sym, ap, ◌∙◌}
 use Rattle.cipher.specs.Bytes.{from_le}
-use Rattle.cipher.specs.Keys.{key_bytes}
 use Rattle.cipher.specs.Rc5.{key_words, unmixed}
 use Rattle.cipher.proofs.ByteLaws.{spelled, from_le_4}
 use Rattle.cipher.proofs.KeyLaws.{length_key_bytes}

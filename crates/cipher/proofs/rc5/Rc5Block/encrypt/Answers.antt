@@ -1,7 +1,7 @@
-use Rattle.std.proofs.Common.{◌≡◌, ℕ, List, ◌++◌, map, length, get_or, take, drop, sym, refl, ap, ◌∙◌}
+use Rattle.std.proofs.Common.{◌≡◌, ℕ, List, ◌++◌, map, get_or, take, drop, sym, ap, ◌∙◌}
 use Rattle.std.specs.List.{range_with_len}
 use Rattle.cipher.specs.declared.rc5.Halves.{Halves}
-use Rattle.cipher.specs.Bytes.{from_le, to_le}
+use Rattle.cipher.specs.Bytes.{from_le}
 use Rattle.cipher.specs.Rc5.{encrypted, halves_bytes, halves_of, rounds, whitened}
 use Rattle.cipher.proofs.ByteLaws.{spelled, from_le_4, to_le_4}
 use Rattle.cipher.proofs.rc5.Rc5Block.encrypt.Goals as goal

@@ -1,5 +1,5 @@
 -- Each answer is that of the questions: those before it were answered yes.
-use Rattle.std.proofs.Common.{◌≡◌, true, false, nat_lt, sym, refl, ap, ◌∙◌, arith, rules}
+use Rattle.std.proofs.Common.{◌≡◌, true, false, nat_lt, sym, refl, ap, ◌∙◌, rules}
 use Rattle.chain.specs.Chain.{down}
 use Rattle.node.proofs.receiver.Receiver.may_adopt.Goals as goal
 

@@ -1,5 +1,4 @@
-use Rattle.std.proofs.Common.{◌≡◌, length, sym, refl, ap, ◌∙◌, arith}
-use Rattle.packet.specs.Kinds.{data_said}
+use Rattle.std.proofs.Common.{length, sym, refl, ap, ◌∙◌}
 use Rattle.link.specs.Reception.{refuses, releases, rests, right_now}
 use Rattle.link.specs.Receiver.{to_release, world, out_of}
 use Rattle.refusal.specs.declared.Refusal.TheVariants.{BufferTooShort}

@@ -1,4 +1,4 @@
-use Rattle.std.proofs.Common.{◌≡◌, sym, ap}
+use Rattle.std.proofs.Common.{sym, ap}
 use Rattle.node.specs.Answers.{asked}
 use Rattle.node.proofs.Joining.{welcomed_ok, welcomed_err}
 use Rattle.node.proofs.requesting.Requesting.check.Goals as goal

@@ -1,4 +1,4 @@
-use Rattle.std.proofs.Common.{◌≡◌, refl}
+use Rattle.std.proofs.Common.{refl}
 use Rattle.packet.specs.Kinds.{answer_said}
 use Rattle.node.specs.Clocks.{clock_of}
 use Rattle.node.specs.Nodes.{node_of}

@@ -1,7 +1,7 @@
-use Rattle.std.proofs.Common.{◌≡◌, ℕ, ◌+◌, ◌<◌, ◌≤◌, ◌⊎◌, List, [], ◌∷◌, ◌++◌, map, length, get_or, take, Some, None, Option, sym, refl, ap, ◌∙◌, subst, inl, inr, arith}
+use Rattle.std.proofs.Common.{◌≡◌, ℕ, ◌+◌, ◌<◌, ◌≤◌, ◌⊎◌, List, [], ◌∷◌, ◌++◌, map, length, get_or, take, Some, Option, ap, subst, inl, inr, arith}
 use Rattle.link.proofs.Uptos.{upto_nil}
 use Rattle.node.specs.declared.slot.Slot.{Slot}
-use Rattle.node.specs.Places.{KnownFirst, slot_said}
+use Rattle.node.specs.Places.{slot_said}
 use Rattle.node.proofs.Tables.{one_past, length_first}
 use Rattle.node.proofs.Firsts.{Leading, leading_keeps, leading_takes, leading_means}
 use Rattle.node.proofs.table.Table.first_known.Goals as goal

@@ -1,4 +1,4 @@
-use Rattle.std.proofs.Common.{◌≤◌, map, take}
+use Rattle.std.proofs.Common.{map, take}
 use Rattle.node.specs.Places.{slot_said}
 use Rattle.node.proofs.Firsts.{Leading}
 use Rattle.node.proofs.table.Table.first_known.Given as goal

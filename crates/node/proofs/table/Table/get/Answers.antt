@@ -1,4 +1,4 @@
-use Rattle.std.proofs.Common.{◌≡◌, sym, ap, ◌∙◌, arith}
+use Rattle.std.proofs.Common.{arith}
 use Rattle.node.specs.Places.{slot_said}
 use Rattle.node.proofs.Tables.{most_first, one_read}
 use Rattle.node.proofs.table.Table.get.Goals as goal

@@ -1,4 +1,4 @@
-use Rattle.std.proofs.Common.{◌≡◌, sym, ◌∙◌, arith}
+use Rattle.std.proofs.Common.{sym, arith}
 use Rattle.node.specs.Places.{slot_said}
 use Rattle.node.proofs.Tables.{length_first}
 use Rattle.node.proofs.table.Table.len.Goals as goal

@@ -1,8 +1,7 @@
 -- What a call gives, from the places of the levels.
-use Rattle.std.proofs.Common.{◌≡◌, ℕ, ◌+◌, ◌-◌, ◌*◌, ◌%◌, ◌^◌, ◌<◌, ◌≤◌, sym, refl, ap, ◌∙◌, arith, pow_mono}
+use Rattle.std.proofs.Common.{◌+◌, ◌*◌, ◌%◌, ◌<◌, sym, ap, ◌∙◌, arith, pow_mono}
 use Rattle.std.proofs.lemmas.Nat.{one_shl}
 use Rattle.chain.specs.Chain.{step}
-use Rattle.pebbles.specs.Levels.{zeros}
 use Rattle.pebbles.proofs.Forms.{gives_away, gives_odd, gives_refilled, moves_two}
 use Rattle.pebbles.proofs.Ready.{refill_place}
 use Rattle.pebbles.proofs.Strides.{even_power}

@@ -1,5 +1,5 @@
 -- An even place of the chain has between 1 and 12 trailing zero bits.
-use Rattle.std.proofs.Common.{◌^◌, ◌<◌, ◌≤◌, refl, arith, pow_mono}
+use Rattle.std.proofs.Common.{◌<◌, arith, pow_mono}
 use Rattle.std.proofs.lemmas.Nat.{one_shl}
 use Rattle.pebbles.specs.Levels.{zeros}
 use Rattle.pebbles.proofs.Ready.{zeros_within}
