@@ -7,7 +7,7 @@ use capture::{Record, Records};
 use inputs::{Fault, Time, Unread, standard_input, tell};
 use playback::{MAX_CAPTURE, open};
 use std::io;
-use std::io::{BufWriter, Stdout, Write};
+use std::io::{BufWriter, ErrorKind, Stdout, Write};
 use std::process::ExitCode;
 
 fn main(rt: HostRuntime) -> ExitCode {
@@ -22,6 +22,7 @@ fn run(rt: &HostRuntime) -> Result<(), Fault> {
     let records = open(&capture)?;
     match print(rt, records, capture.len()) {
         Ok(()) => Ok(()),
+        Err(e) if e.kind() == ErrorKind::OutOfMemory => Err(Fault::NoMemory),
         Err(e) => Err(Fault::Unwritten(e)),
     }
 }

@@ -1,6 +1,6 @@
 -- The history that a replay ran: the calls that the joined receiver got, and what holds of them.
 use Rattle.std.specs.Prelude.{◌≡◌, ℕ, List, [], ◌∷◌, ◌++◌, map, drop, Ok}
-use Rattle.std.specs.List.{flat_map as joined}
+use Rattle.std.specs.List.{flat_map}
 use Rattle.cipher.specs.Blocks.{Make}
 use Rattle.cipher.specs.declared.key.Key.{Key}
 use Rattle.packet.specs.Kinds as kinds
@@ -39,9 +39,9 @@ pub record JoinIn (cipher : Make) (pair : Key) (start : Part) (xs : List Record)
 
 -- where there was a join, the orders are the true releases of the calls behind it, and the theorem of the link holds of every history of that receiver
 pub record Ran (cipher : Make) (pair : Key) (start : Part) (xs : List Record) (out : List Record) (j : JoinIn cipher pair start xs) : Type 0 where
-  pub releases : map (λ x. x.bytes) out ≡ joined payload_out (released cipher j.receiver (history cipher j.receiver j.behind))
+  pub releases : map (λ x. x.bytes) out ≡ flat_map payload_out (released cipher j.receiver (history cipher j.receiver j.behind))
   -- nothing true is lost: they are all taken packets up to the newest key's interval whose tag is right, interval by interval, in the order of taking
-  pub complete : map (λ x. x.bytes) out ≡ joined payload_out (judged cipher (after cipher j.receiver (history cipher j.receiver j.behind)) (taken_packets cipher j.receiver (history cipher j.receiver j.behind)))
+  pub complete : map (λ x. x.bytes) out ≡ flat_map payload_out (judged cipher (after cipher j.receiver (history cipher j.receiver j.behind)) (taken_packets cipher j.receiver (history cipher j.receiver j.behind)))
   pub theorem : (x : Sender cipher) (said : kinds.Answer) → Answered x said → j.answer.bytes ≡ answer_bytes said → EveryHistory x j.receiver
 
 -- without a join no order comes out

@@ -1,5 +1,5 @@
 // What a call does to the levels of a pebbled source.
-ghost use Rattle.std.specs.Prelude.{◌≡◌, ℕ, ◌+◌, ◌-◌, ◌*◌, ◌%◌, ◌^◌, ◌<◌, ◌≤◌, true, map, get_or, if◌then◌else◌, slice_index_or};
+ghost use Rattle.std.specs.Prelude.{◌≡◌, ℕ, ◌+◌, ◌-◌, ◌*◌, ◌%◌, ◌^◌, ◌<◌, ◌≤◌, true, map, if◌then◌else◌, slice_index_or};
 ghost use Rattle.cipher.specs.declared.key.Key.{Key as KeyOf};
 ghost use Rattle.chain.specs.Chain.{step as step_of};
 ghost use Rattle.pebbles.specs.declared.level.Level.{Level as LevelOf};
@@ -35,7 +35,7 @@ fn moved<B: Block>(l: Level<Key>) -> (Level<Key>, u32)
 }
 
 fn lower<B: Block>(levels: &mut [Level<Key>; 12]) -> u32
-    requires { (j : ℕ) (d : LevelOf KeyOf) → j < 12 → moves (slice_index_or levels.old j d) ≡ true → 2 ≤ (get_or levels.old j d).place }
+    requires { (j : ℕ) (d : LevelOf KeyOf) → j < 12 → moves (slice_index_or levels.old j d) ≡ true → 2 ≤ (slice_index_or levels.old j d).place }
     ensures levels { levels.new ≡ map (lowered (step_of B.make)) levels.old }
     ensures steps { result ≡ lowering_steps levels.old }
     ensures few { result ≤ 24 }

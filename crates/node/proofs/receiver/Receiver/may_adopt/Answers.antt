@@ -1,5 +1,5 @@
 -- Each answer is that of the questions: those before it were answered yes.
-use Rattle.std.proofs.Common.{◌≡◌, true, false, nat_lt, sym, refl, ap, ◌∙◌, rules}
+use Rattle.std.proofs.Common.{◌≡◌, ◌-◌, true, false, nat_lt, sym, refl, rules}
 use Rattle.chain.specs.Chain.{down}
 use Rattle.node.proofs.receiver.Receiver.may_adopt.Goals as goal
 
@@ -22,11 +22,13 @@ returns-then-is_early g c =
 pub returns-then-not-is_same_key : goal.returns-then-not-is_same_key
 returns-then-not-is_same_key g c =
     let newer : nat_lt c.args.self.now.reached c.args.interval ≡ true = search rules in
-    let end = c.down-end.ensures.value ∙ ap (down g.B.Block.make c.args.key) c.from.ensures in
-    rw (sym c.if-not-is_in_order.ensures, sym c.if-not-is_interval.ensures, newer, sym c.if-is_early.ensures, sym end, sym c.if-not-is_same_key.ensures) refl
+    let end : c.down-end.result ≡ down g.B.Block.make c.args.key (c.args.interval - c.args.self.now.reached) = search rules in
+    let other : c.is_same_key.result ≡ false = search rules in
+    rw (sym c.if-not-is_in_order.ensures, sym c.if-not-is_interval.ensures, newer, sym c.if-is_early.ensures, sym end, sym c.is_same_key.ensures, other) refl
 
 pub returns : goal.returns
 returns g c =
     let newer : nat_lt c.args.self.now.reached c.args.interval ≡ true = search rules in
-    let end = c.down-end.ensures.value ∙ ap (down g.B.Block.make c.args.key) c.from.ensures in
-    rw (sym c.if-not-is_in_order.ensures, sym c.if-not-is_interval.ensures, newer, sym c.if-is_early.ensures, sym end, sym c.if-not-is_same_key.ensures) refl
+    let end : c.down-end.result ≡ down g.B.Block.make c.args.key (c.args.interval - c.args.self.now.reached) = search rules in
+    let same : c.is_same_key.result ≡ true = search rules in
+    rw (sym c.if-not-is_in_order.ensures, sym c.if-not-is_interval.ensures, newer, sym c.if-is_early.ensures, sym end, sym c.is_same_key.ensures, same) refl
