@@ -1,4 +1,4 @@
-"""Random cases through the program `vectors`, against the model: random_cases.py [COUNT [SEED]]. Run it after `rt run` in crates/vectors."""
+"""Random cases through the program `vectors`, against the model: random_cases.py [COUNT [SEED]]. Run it after `rt run </dev/null` in crates/vectors."""
 import pathlib
 import random
 import subprocess

@@ -357,8 +357,7 @@ class Programs:
         try:
             text = explain(pair, capture)
         except Refused as refusal:
-            # input that is too long has a reason of its own, for which the document asks no number
-            self.fails(name, capture, refusal.args[0] if len(capture) <= LONGEST else None)
+            self.fails(name, capture, refusal.args[0])
             return []
         # explain first, because it tells where a difference begins
         wanted = {'explain': '\n'.join(text + ['']).encode(), 'replay': replay(pair, capture)[0]}
@@ -378,7 +377,7 @@ class Programs:
             self.fails(f'pair.key of {length} bytes', EXAMPLE)
         key.write_bytes(EXAMPLE_PAIR)
         for length in (LONGEST + 1, 2 * LONGEST, 10 ** 6):
-            self.fails(f'{length} bytes', EXAMPLE + bytes(length - len(EXAMPLE)))
+            self.fails(f'{length} bytes', EXAMPLE + bytes(length - len(EXAMPLE)), 21)
         wrong = {
             'no input': b'',
             'one byte': EXAMPLE[:1],
