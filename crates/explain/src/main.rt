@@ -9,7 +9,7 @@ mod tally;
 
 use cipher::Rc5;
 use heard::Heard;
-use inputs::{Fault, key_file, key_of, standard_input, tell};
+use inputs::{Fault, key_file, key_of, standard_input, status, tell};
 use out::Out;
 use packet::MAX_PAYLOAD;
 use playback::{MAX_CAPTURE, Step, Walk, open};
@@ -19,10 +19,7 @@ use std::process::ExitCode;
 use tally::Tally;
 
 fn main(rt: HostRuntime) -> ExitCode {
-    match tell(&rt, "explain", run(&rt)) {
-        Ok(()) => ExitCode::SUCCESS,
-        Err(_) => ExitCode::FAILURE,
-    }
+    status(tell(&rt, "explain", run(&rt)))
 }
 
 fn run(rt: &HostRuntime) -> Result<(), Fault> {

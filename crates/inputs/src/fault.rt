@@ -1,8 +1,10 @@
 // What keeps a program from its answer, told to the operator in words.
-ghost use Rattle.std.specs.Prelude.{◌≡◌};
+ghost use Rattle.std.specs.Prelude.{◌≡◌, MatchResult};
+ghost use Rattle.std.specs.Process.{exit_status};
 
 use refusal::Refusal;
 use std::alloc::AllocError;
+use std::process::ExitCode;
 use std::{fmt, io};
 
 #[derive(Clone, Copy)]
@@ -65,4 +67,14 @@ pub fn tell(rt: &HostRuntime, program: &str, res: Result<(), Fault>) -> Result<(
         return Err(fault);
     }
     Ok(())
+}
+
+// The status that a program ends with: 0, or 1 where a fault kept it from its answer.
+pub fn status(res: Result<(), Fault>) -> ExitCode
+    ensures { MatchResult res (λ done. exit_status result ≡ 0) (λ fault. exit_status result ≡ 1) }
+{
+    match res {
+        Ok(()) => ExitCode::SUCCESS,
+        Err(_) => ExitCode::FAILURE,
+    }
 }

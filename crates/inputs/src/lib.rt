@@ -6,6 +6,6 @@ mod fault;
 mod place;
 mod reading;
 
-pub use fault::{Fault, tell};
+pub use fault::{Fault, status, tell};
 pub use place::{Time, Unread};
 pub use reading::{key_file, key_of, standard_input};

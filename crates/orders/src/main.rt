@@ -4,17 +4,14 @@
 
 use byte_text::Readable;
 use capture::{Record, Records};
-use inputs::{Fault, Time, Unread, standard_input, tell};
+use inputs::{Fault, Time, Unread, standard_input, status, tell};
 use playback::{MAX_CAPTURE, open};
 use std::io;
 use std::io::{BufWriter, ErrorKind, Stdout, Write};
 use std::process::ExitCode;
 
 fn main(rt: HostRuntime) -> ExitCode {
-    match tell(&rt, "orders", run(&rt)) {
-        Ok(()) => ExitCode::SUCCESS,
-        Err(_) => ExitCode::FAILURE,
-    }
+    status(tell(&rt, "orders", run(&rt)))
 }
 
 fn run(rt: &HostRuntime) -> Result<(), Fault> {

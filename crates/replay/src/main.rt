@@ -2,16 +2,13 @@
 
 #![tactic(auto)]
 
-use inputs::{Fault, key_file, key_of, standard_input, tell};
+use inputs::{Fault, key_file, key_of, standard_input, status, tell};
 use playback::{MAX_CAPTURE, replay};
 use std::io::Write;
 use std::process::ExitCode;
 
 fn main(rt: HostRuntime) -> ExitCode {
-    match tell(&rt, "replay", run(&rt)) {
-        Ok(()) => ExitCode::SUCCESS,
-        Err(_) => ExitCode::FAILURE,
-    }
+    status(tell(&rt, "replay", run(&rt)))
 }
 
 fn run(rt: &HostRuntime) -> Result<(), Fault> {

@@ -7,4 +7,8 @@ use Rattle.playback.proofs.Openings.{opens}
 pub returns-in-147 : goal.returns-in-147
 returns-in-147 c =
     let short : length c.args.capture.now ≤ 65536 = search rules in
-    opens c.args.capture.now c.in_ok-header.header _ short c.in_ok-header.ensures.value c.in-147.is (c.new.ensures.records ∙ ap (records c.in_ok-header.header.order 256) (take_rest c.args.capture.now 24))
+    let rest = take_rest c.args.capture.now 24 in
+    record {
+      value = opens c.args.capture.now c.in_ok-header.header _ short c.in_ok-header.ensures.value c.in-147.is (c.new.ensures.records ∙ ap (records c.in_ok-header.header.order 256) rest);
+      bytes = c.new.ensures.bytes ∙ rest;
+    }

@@ -13,28 +13,28 @@ use Rattle.playback.proofs.replaying.replay.Goals as goal
 
 pub returns-then-out-capture : goal.returns-then-out-capture
 returns-then-out-capture c =
-    let short = too_short c.args.pair c.args.capture.now _ c.args.out.now c.in_ok-records.ensures c.if-out-capture.true in
+    let short = too_short c.args.pair c.args.capture.now _ c.args.out.now c.in_ok-records.ensures.value c.if-out-capture.true in
     record { value = ap (λ x. x.0) short; after = ap (λ x. x.1) short; fits = tt; back = tt; history = stands _ _ }
 
 pub put_header-requires : goal.put_header-requires
 put_header-requires c =
-    let sound : SoundCapture c.args.capture.now (rc5_playable (ahead c.in_ok-records.records)) = sound_capture _ _ (All-from_get_or Byte _ 0 (λ i below. (c.type_inv.capture i).fits)) (sym c.in_ok-records.ensures) in
+    let sound : SoundCapture c.args.capture.now (rc5_playable (ahead c.in_ok-records.records)) = sound_capture _ _ (All-from_get_or Byte _ 0 (λ i below. (c.type_inv.capture i).fits)) (sym c.in_ok-records.ensures.value) in
     let room = sound.room in
     let left = c.if-out-capture.false in
     omega arith
 
 pub write_orders-requires : goal.write_orders-requires
 write_orders-requires c =
-    let sound : SoundCapture c.args.capture.now (rc5_playable (ahead c.in_ok-records.records)) = sound_capture _ _ (All-from_get_or Byte _ 0 (λ i below. (c.type_inv.capture i).fits)) (sym c.in_ok-records.ensures) in
+    let sound : SoundCapture c.args.capture.now (rc5_playable (ahead c.in_ok-records.records)) = sound_capture _ _ (All-from_get_or Byte _ 0 (λ i below. (c.type_inv.capture i).fits)) (sym c.in_ok-records.ensures.value) in
     all_fit c.args.pair c.args.capture.now (ahead c.in_ok-records.records) c.args.out.now sound c.if-out-capture.false _ (c.new.ensures rc5_make) _ c.put_header.auto.out
 
 pub returns : goal.returns
 returns c =
     let xs = ahead c.in_ok-records.records in
     let all = to_come rc5_make c.new.result in
-    let sound : SoundCapture c.args.capture.now (rc5_playable xs) = sound_capture _ _ (All-from_get_or Byte _ 0 (λ i below. (c.type_inv.capture i).fits)) (sym c.in_ok-records.ensures) in
+    let sound : SoundCapture c.args.capture.now (rc5_playable xs) = sound_capture _ _ (All-from_get_or Byte _ 0 (λ i below. (c.type_inv.capture i).fits)) (sym c.in_ok-records.ensures.value) in
     let left = c.if-out-capture.false in
-    let opened = c.in_ok-records.ensures in
+    let opened = c.in_ok-records.ensures.value in
     let counts : c.write_orders.result ≡ counts_of all = c.write_orders.ensures.counts in
     let filled = filled_so c.args.pair c.args.capture.now xs c.args.out.now sound left all (c.new.ensures rc5_make) _ _ c.put_header.ensures c.write_orders.ensures.after in
     let so = replayed_so c.args.pair c.args.capture.now xs c.args.out.now sound left all (c.new.ensures rc5_make) opened in
