@@ -1,5 +1,6 @@
 // The file of the pair's key and the standard input, read no further than they may be long.
-ghost use Rattle.std.specs.Prelude.{◌≡◌, ◌≤◌, IfOk, vec_len};
+ghost use Rattle.std.specs.Prelude.{◌≡◌, ◌<◌, ◌≤◌, IfErr, IfOk, IfSome, length, take, vec_len};
+ghost use Rattle.inputs.specs.declared.fault.Fault.TheVariants.{InputTooLong};
 ghost use Rattle.inputs.specs.Keys.{KeyRead};
 
 use crate::fault::Fault;
@@ -13,9 +14,10 @@ const KEY_FILE: &str = "pair.key";
 
 const KEY_LENGTH: usize = 16;
 
-// The cut changes nothing; it shows that no more than `most` bytes are answered.
+// The first `most` bytes of an input, or all where it has no more. The cut changes nothing; it shows that there are no more.
 fn read_at_most<R: Read + Drop>(heap: Global, input: R, most: usize) -> io::Result<Vec<u8>>
-    ensures { IfOk result (λ bytes. vec_len bytes ≤ most) }
+    ensures few { IfOk result (λ bytes. vec_len bytes ≤ most) }
+    ensures front { IfOk result (λ bytes. IfSome (R.remaining input) (λ xs. bytes.items ≡ take most xs)) }
 {
     let mut bytes = Vec::new(heap);
     input.take(most as u64).read_to_end(&mut bytes)?;
@@ -51,14 +53,23 @@ pub fn key_of(bytes: &[u8]) -> Result<Key, Fault>
     }
 }
 
-// All of standard input, where it has at most `longest` bytes.
-pub fn standard_input(rt: &HostRuntime, longest: usize) -> Result<Vec<u8>, Fault>
-    ensures { IfOk result (λ bytes. vec_len bytes ≤ longest) }
+// All of an input that has at most `longest` bytes; a longer one is a fault, and none of it is answered.
+fn read_within<R: Read + Drop>(heap: Global, input: R, longest: usize) -> Result<Vec<u8>, Fault>
+    ensures few { IfOk result (λ bytes. vec_len bytes ≤ longest) }
+    ensures whole { IfOk result (λ bytes. IfSome (R.remaining input) (λ xs. bytes.items ≡ xs)) }
+    ensures long { IfErr result (λ fault. fault ≡ InputTooLong longest → IfSome (R.remaining input) (λ xs. longest < length xs)) }
 {
-    match read_at_most(rt.alloc(), rt.stdin(), longest.saturating_add(1)) {
+    match read_at_most(heap, input, longest.saturating_add(1)) {
         Ok(bytes) if bytes.len() > longest => Err(Fault::InputTooLong(longest)),
         Ok(bytes) => Ok(bytes),
         Err(e) if e.kind() == ErrorKind::OutOfMemory => Err(Fault::NoMemory),
         Err(e) => Err(Fault::InputUnread(e)),
     }
+}
+
+// All of standard input, where it has at most `longest` bytes.
+pub fn standard_input(rt: &HostRuntime, longest: usize) -> Result<Vec<u8>, Fault>
+    ensures { IfOk result (λ bytes. vec_len bytes ≤ longest) }
+{
+    read_within(rt.alloc(), rt.stdin(), longest)
 }
