@@ -1,6 +1,7 @@
 // What keeps a program from its answer, told to the operator in words.
 ghost use Rattle.std.specs.Prelude.{◌≡◌, MatchResult};
 ghost use Rattle.std.specs.Process.{exit_status};
+ghost use Rattle.inputs.specs.declared.fault.Fault.TheVariants.{NoMemory, Refused};
 
 use refusal::Refusal;
 use std::alloc::AllocError;
@@ -47,12 +48,16 @@ impl fmt::Display for Fault {
 }
 
 impl From<AllocError> for Fault {
+    ghost from_gives = { λ _ fault. fault ≡ NoMemory };
+
     fn from(_e: AllocError) -> Fault {
         Fault::NoMemory
     }
 }
 
 impl From<Refusal> for Fault {
+    ghost from_gives = { λ refusal fault. fault ≡ Refused refusal };
+
     fn from(refusal: Refusal) -> Fault {
         Fault::Refused(refusal)
     }
