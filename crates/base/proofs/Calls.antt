@@ -19,7 +19,7 @@ module _ {B M D : Type 0} {c : block.Ghosts B} (m : Ghosts M) (d : Ghosts D) (b 
   -- the latest reading is not before the start
   pub begun : x.setup.start ≤ x.latest
   begun =
-      let start : b.start ≡ x.setup.start = ap (λ n. n.start) means.same in
+      let start : b.schedule.start ≡ x.setup.start = ap (λ n. n.start) means.same in
       let latest : b.latest ≡ x.latest = ap (λ n. n.latest) means.same in
       rw (← start, ← latest) b.begun
 

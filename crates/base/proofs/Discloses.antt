@@ -120,10 +120,10 @@ module _ {B M D : Type 0} {c : block.Ghosts B} (cipher : Make) (m : Ghosts M) (d
       Ok j ≡ asked (disclose_questions (held m d b) n s (length out)) (plain_due (held m d b) n s) →
       ((d.meaning b.disclosing.source).drawn ≤ j → (d.meaning b'.disclosing.source).drawn ≡ j) →
       ((zeroth : Key) (n : ℕ) (key : ℕ → Key) → Serves d.meaning b.disclosing zeroth n key → Serves d.meaning b'.disclosing zeroth n key) →
-      b'.making ≡ b.making → b'.start ≡ b.start → b'.duration ≡ b.duration → b'.delay ≡ b.delay → b'.latest ≡ s → b'.made ≡ b.made →
+      b'.making ≡ b.making → b'.schedule ≡ b.schedule → b'.latest ≡ s → b'.made ≡ b.made →
       r ≡ Ok 19 → out' ≡ filled (disclosure_bytes (disclosure_of j b'.disclosing.last)) out →
       Called cipher m d x (to_disclose s (length out)) r out out' b'
-  disclosed_call s j out out' r b' asks given serves other start duration delay latest made answer written =
+  disclosed_call s j out out' r b' asks given serves other schedule latest made answer written =
       let started = begun m d b x means in
       let at_x = ap (λ k. asked (disclose_questions k n s (length out)) (plain_due k n s)) means.same in
       let g = disclose_granted x s (length out) n started paired j (asks ∙ at_x) in
@@ -136,9 +136,9 @@ module _ {B M D : Type 0} {c : block.Ghosts B} (cipher : Make) (m : Ghosts M) (d
       let left : Means m d b' (record { setup = x.setup; latest = s; busy = x.busy; made = x.made; last = j }) = record {
         same = λ k. record {
           count = (ap (λ z. (m.meaning z.source).count) other ∙ ap (λ z. z.count) means.same) k;
-          start = (start ∙ ap (λ z. z.start) means.same) k;
-          duration = (duration ∙ ap (λ z. z.duration) means.same) k;
-          delay = (delay ∙ ap (λ z. z.delay) means.same) k;
+          start = (ap (λ z. z.start) schedule ∙ ap (λ z. z.start) means.same) k;
+          duration = (ap (λ z. z.duration) schedule ∙ ap (λ z. z.duration) means.same) k;
+          delay = (ap (λ z. z.delay) schedule ∙ ap (λ z. z.delay) means.same) k;
           latest = latest k;
           busy = (ap (λ z. (m.meaning z.source).drawn) other ∙ ap (λ z. z.busy) means.same) k;
           made = (made ∙ ap (λ z. z.made) means.same) k;

@@ -96,10 +96,10 @@ module _ {B M D : Type 0} {c : block.Ghosts B} (cipher : Make) (m : Ghosts M) (d
       Ok i ≡ asked (make_questions (held m d b) s (length payload) (length out)) (plain_interval (held m d b) s) → n ≡ made_at (held m d b) i →
       ((m.meaning b.making.source).drawn ≤ i → (m.meaning b'.making.source).drawn ≡ i) →
       ((zeroth : Key) (n : ℕ) (key : ℕ → Key) → Serves m.meaning b.making zeroth n key → Serves m.meaning b'.making zeroth n key) →
-      b'.disclosing ≡ b.disclosing → b'.start ≡ b.start → b'.duration ≡ b.duration → b'.delay ≡ b.delay → b'.latest ≡ s → b'.made ≡ n + 1 →
+      b'.disclosing ≡ b.disclosing → b'.schedule ≡ b.schedule → b'.latest ≡ s → b'.made ≡ n + 1 →
       r ≡ Ok (12 + length payload) → out' ≡ filled (data_bytes (data_under cipher b'.making.last i n payload)) out →
       Called cipher m d x (to_make s payload (length out)) r out out' b'
-  made_call s i n payload out out' r b' asks count given serves other start duration delay latest made answer written =
+  made_call s i n payload out out' r b' asks count given serves other schedule latest made answer written =
       let started = begun m d b x means in
       let at_x = ap (λ k. asked (make_questions k s (length payload) (length out)) (plain_interval k s)) means.same in
       let g = make_granted x s payload (length out) started i (asks ∙ at_x) in
@@ -115,9 +115,9 @@ module _ {B M D : Type 0} {c : block.Ghosts B} (cipher : Make) (m : Ghosts M) (d
       let left : Means m d b' (record { setup = x.setup; latest = s; busy = i; made = made_in x i + 1; last = x.last }) = record {
         same = λ k. record {
           count = now.count k;
-          start = (start ∙ ap (λ z. z.start) means.same) k;
-          duration = (duration ∙ ap (λ z. z.duration) means.same) k;
-          delay = (delay ∙ ap (λ z. z.delay) means.same) k;
+          start = (ap (λ z. z.start) schedule ∙ ap (λ z. z.start) means.same) k;
+          duration = (ap (λ z. z.duration) schedule ∙ ap (λ z. z.duration) means.same) k;
+          delay = (ap (λ z. z.delay) schedule ∙ ap (λ z. z.delay) means.same) k;
           latest = latest k;
           busy = drew k;
           made = (made ∙ ap (λ z. z + 1) number) k;

@@ -23,27 +23,6 @@ wrote p out after r short room value buffer =
     let roomy : leb (packet_length p) (length out) ≡ true = le-leb _ _ room in
     (rw (short, roomy) at value, rw (short, roomy) at buffer)
 
--- a message that is short enough has a tag
-pub tag_found : (cipher : Make) (key : Key) (message found : List ℕ) (r : Result (List ℕ) Refusal) → length message ≤ 4096 → r ≡ tagged cipher key message → r ≡ Ok found → found ≡ tag cipher key message
-tag_found cipher key message found r few value is =
-    let short : leb (length message) 4096 ≡ true = le-leb _ 4096 few in
-    let right : r ≡ Ok (tag cipher key message) = rw short at value in
-    cc
-
--- a data packet's tag, from what it covers, which stands at the start of a buffer
-pub order_tagged : (cipher : Make) (key under : Key) (p : Data) (out after : List ℕ) (n : ℕ) (r : Result ℕ Refusal) (found : List ℕ) (t : Result (List ℕ) Refusal) → length p.payload ≤ 64 →
-    r ≡ (write_covered p out).0 → after ≡ (write_covered p out).1 → r ≡ Ok n → under ≡ interval_tag_key cipher key → t ≡ tagged cipher under (take (n - 0) after) → t ≡ Ok found → found ≡ data_tag cipher key p
-unfolding filled
-order_tagged cipher key under p out after n r found t few value buffer is same tag_value tag_is =
-    let short : leb (length p.payload) 64 ≡ true = le-leb _ 64 few in
-    let answer : r ≡ Ok (4 + length p.payload) = rw short at value in
-    let bytes : after ≡ filled (data_covered p) out = rw short at buffer in
-    let long : n ≡ 4 + length p.payload = cc in
-    let all : n - 0 ≡ n = omega arith in
-    let front : take (n - 0) after ≡ data_covered p = ap (λ k. take k after) all ∙ ap (take n) bytes ∙ take_at (data_covered p) (drop (length (data_covered p)) out) n (length_data_covered p ∙ sym long) in
-    let brief : length (take (n - 0) after) ≤ 4096 = rw front (omega (arith, length_data_covered p)) in
-    tag_found cipher under (take (n - 0) after) found t brief tag_value tag_is ∙ (λ i. tag cipher (same i) (front i))
-
 -- an order with the tag of its draft
 pub order_written : (cipher : Make) (key : Key) (interval number : ℕ) (payload none found out after : List ℕ) (r : Result ℕ Refusal) → length payload ≤ 64 → 12 + length payload ≤ length out →
     found ≡ data_tag cipher key (record { interval = interval; number = number; payload = payload; tag = none }) →

@@ -59,11 +59,11 @@ module _ {B M D : Type 0} {c : block.Ghosts B} (cipher : Make) (m : Ghosts M) (d
 
   pub answered_call : (s : ℕ) (pair : Key) (bytes out out' : List ℕ) (q : Request) (r : Result ℕ Refusal) (b' : Held.Base B M D c m d) →
       Ok q ≡ read_request bytes → Ok (tt {0}) ≡ asked (answer_questions (held m d b) s (length out)) (tt {0}) →
-      b'.making ≡ b.making → b'.disclosing ≡ b.disclosing → b'.start ≡ b.start → b'.duration ≡ b.duration → b'.delay ≡ b.delay → b'.latest ≡ s → b'.made ≡ b.made →
+      b'.making ≡ b.making → b'.disclosing ≡ b.disclosing → b'.schedule ≡ b.schedule → b'.latest ≡ s → b'.made ≡ b.made →
       r ≡ Ok 48 →
-      out' ≡ filled (answer_bytes (answer_under cipher pair q.nonce (answer_untagged s b.disclosing.last drawn (b.start + drawn * b.duration) b.duration b.delay))) out →
+      out' ≡ filled (answer_bytes (answer_under cipher pair q.nonce (answer_untagged s b.disclosing.last drawn (b.schedule.start + drawn * b.schedule.duration) b.schedule.duration b.schedule.delay))) out →
       Called cipher m d x (to_answer s pair bytes (length out)) r out out' b'
-  answered_call s pair bytes out out' q r b' read asks first second start duration delay latest made answer written' =
+  answered_call s pair bytes out out' q r b' read asks first second schedule latest made answer written' =
       let g = granted_by (answer_questions (numbers x) s (length out)) (tt {0}) (tt {0}) (asks ∙ ap (λ k. asked (answer_questions k s (length out)) (tt {0})) means.same) in
       let later = (ordered x.latest s (all_yes (answer_questions (numbers x) s (length out)) g.0).0).1 in
       let none = behind_read x s pair bytes (length out) q read ∙ g.0 in
@@ -71,16 +71,16 @@ module _ {B M D : Type 0} {c : block.Ghosts B} (cipher : Make) (m : Ghosts M) (d
       let nonce : q.nonce ≡ (request_of bytes).nonce = ap (λ a. a.nonce) (request_read bytes q read) in
       let last : drawn ≡ x.last = ap (λ k. k.last) means.same in
       let key = means.disclosing.last ∙ ap (λ k. cond (eqb k 0) x.setup.commitment (x.setup.disclosing k)) last in
-      let began : b.start ≡ x.setup.start = ap (λ k. k.start) means.same in
-      let lasts : b.duration ≡ x.setup.duration = ap (λ k. k.duration) means.same in
-      let delays : b.delay ≡ x.setup.delay = ap (λ k. k.delay) means.same in
+      let began : b.schedule.start ≡ x.setup.start = ap (λ k. k.start) means.same in
+      let lasts : b.schedule.duration ≡ x.setup.duration = ap (λ k. k.duration) means.same in
+      let delays : b.schedule.delay ≡ x.setup.delay = ap (λ k. k.delay) means.same in
       let P : Base → Type 0 = λ y. Means m d b' y in
       let left : Means m d b' (record { setup = x.setup; latest = s; busy = x.busy; made = x.made; last = x.last }) = record {
         same = λ k. record {
           count = (ap (λ z. (m.meaning z.source).count) first ∙ ap (λ z. z.count) means.same) k;
-          start = (start ∙ began) k;
-          duration = (duration ∙ lasts) k;
-          delay = (delay ∙ delays) k;
+          start = (ap (λ z. z.start) schedule ∙ began) k;
+          duration = (ap (λ z. z.duration) schedule ∙ lasts) k;
+          delay = (ap (λ z. z.delay) schedule ∙ delays) k;
           latest = latest k;
           busy = (ap (λ z. (m.meaning z.source).drawn) first ∙ ap (λ z. z.busy) means.same) k;
           made = (made ∙ ap (λ z. z.made) means.same) k;

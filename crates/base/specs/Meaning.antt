@@ -21,9 +21,9 @@ supply s = record { count = s.count; key = s.key; given = s.drawn }
 abbrev pub held : {B M D : Type 0} {c : block.Ghosts B} (m : Ghosts M) (d : Ghosts D) → Base B M D c m d → Numbers
 held m d b = record {
   count = (m.meaning b.making.source).count;
-  start = b.start;
-  duration = b.duration;
-  delay = b.delay;
+  start = b.schedule.start;
+  duration = b.schedule.duration;
+  delay = b.schedule.delay;
   latest = b.latest;
   busy = (m.meaning b.making.source).drawn;
   made = b.made;

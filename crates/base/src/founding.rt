@@ -5,6 +5,7 @@ ghost use Rattle.base.specs.Meaning.{Means, supply};
 ghost use Rattle.base.specs.Senders.{PebbledChain, Sends};
 
 use crate::drawing::Drawing;
+use crate::schedule::Schedule;
 use crate::state::Base;
 use cipher::{Block, Key};
 use refusal::Refusal;
@@ -16,16 +17,14 @@ fn may_stand<M: KeySource, D: KeySource>(
     first: &M,
     second: &D,
     commitment: Key,
-    start: u64,
-    duration: u32,
-    delay: u8,
+    schedule: Schedule,
 ) -> bool
-    ensures { result ≡ (in_limits (setup_of (supply (M.KeySource.meaning first.now)) (supply (D.KeySource.meaning second.now)) commitment start duration delay) && a_pair (supply (M.KeySource.meaning first.now)) (supply (D.KeySource.meaning second.now))) }
+    ensures { result ≡ (in_limits (setup_of (supply (M.KeySource.meaning first.now)) (supply (D.KeySource.meaning second.now)) commitment schedule.start schedule.duration schedule.delay) && a_pair (supply (M.KeySource.meaning first.now)) (supply (D.KeySource.meaning second.now))) }
 {
-    duration >= 1
-        && delay >= 1
-        && delay <= 16
-        && start < 1 << 52
+    schedule.duration >= 1
+        && schedule.delay >= 1
+        && schedule.delay <= 16
+        && schedule.start < 1 << 52
         && first.given() == 0
         && second.given() == 0
         && first.count() == second.count()
@@ -38,15 +37,13 @@ impl<B: Block, M: KeySource, D: KeySource> Base<B, M, D> {
         first: M,
         second: D,
         commitment: Key,
-        start: u64,
-        duration: u32,
-        delay: u8,
+        schedule: Schedule,
     ) -> Result<Base<B, M, D>, (M, D, Refusal)>
-        ensures founds { elim result [ Ok b ↦ (found (supply (M.KeySource.meaning first)) (supply (D.KeySource.meaning second)) commitment start duration delay ≡ Ok (unused (setup_of (supply (M.KeySource.meaning first)) (supply (D.KeySource.meaning second)) commitment start duration delay))) × Means M.KeySource D.KeySource b (unused (setup_of (supply (M.KeySource.meaning first)) (supply (D.KeySource.meaning second)) commitment start duration delay)) | Err e ↦ (found (supply (M.KeySource.meaning first)) (supply (D.KeySource.meaning second)) commitment start duration delay ≡ Err e.2) × (e.0 ≡ first) × (e.1 ≡ second) ] }
-        ensures sends { OnOk result (Sends B.Block.make (M.KeySource.meaning first) (D.KeySource.meaning second) (setup_of (supply (M.KeySource.meaning first)) (supply (D.KeySource.meaning second)) commitment start duration delay)) }
+        ensures founds { elim result [ Ok b ↦ (found (supply (M.KeySource.meaning first)) (supply (D.KeySource.meaning second)) commitment schedule.start schedule.duration schedule.delay ≡ Ok (unused (setup_of (supply (M.KeySource.meaning first)) (supply (D.KeySource.meaning second)) commitment schedule.start schedule.duration schedule.delay))) × Means M.KeySource D.KeySource b (unused (setup_of (supply (M.KeySource.meaning first)) (supply (D.KeySource.meaning second)) commitment schedule.start schedule.duration schedule.delay)) | Err e ↦ (found (supply (M.KeySource.meaning first)) (supply (D.KeySource.meaning second)) commitment schedule.start schedule.duration schedule.delay ≡ Err e.2) × (e.0 ≡ first) × (e.1 ≡ second) ] }
+        ensures sends { OnOk result (Sends B.Block.make (M.KeySource.meaning first) (D.KeySource.meaning second) (setup_of (supply (M.KeySource.meaning first)) (supply (D.KeySource.meaning second)) commitment schedule.start schedule.duration schedule.delay)) }
         ensures pebbled { PebbledChain B.Block.make M.KeySource D.KeySource first second commitment }
     {
-        if !may_stand(&first, &second, commitment, start, duration, delay) {
+        if !may_stand(&first, &second, commitment, schedule) {
             return Err((first, second, Refusal::OutOfLimits));
         }
         Ok(Base {
@@ -58,10 +55,8 @@ impl<B: Block, M: KeySource, D: KeySource> Base<B, M, D> {
                 source: second,
                 last: commitment,
             },
-            start,
-            duration,
-            delay,
-            latest: start,
+            schedule,
+            latest: schedule.start,
             made: 0,
             block: PhantomData,
         })

@@ -36,7 +36,7 @@ impl<B: Block, M: KeySource, D: KeySource> Base<B, M, D> {
         }
         let past = self
             .interval_at(reading)
-            .saturating_sub(u64::from(self.delay));
+            .saturating_sub(u64::from(self.schedule.delay));
         let due = past.min(u64::from(self.disclosing.source.count()));
         if due <= u64::from(self.disclosing.source.given()) {
             return Err(Refusal::NoKeyDue);

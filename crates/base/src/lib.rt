@@ -8,6 +8,8 @@ mod founding;
 mod joins;
 mod keys;
 mod orders;
+mod schedule;
 mod state;
 
+pub use schedule::Schedule;
 pub use state::Base;

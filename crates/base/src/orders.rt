@@ -1,34 +1,17 @@
 // How a base makes its orders.
 ghost use Rattle.std.specs.Prelude.{◌≡◌, ◌+◌, ◌-◌, ◌/◌, ◌≤◌, length, Ok, Err};
-ghost use Rattle.packet.specs.Kinds.{data_said};
 ghost use Rattle.packet.specs.Layouts.{data_bytes};
 ghost use Rattle.packet.specs.Writing.{filled};
 ghost use Rattle.link.specs.Base.{Base as AnyBase, to_make};
-ghost use Rattle.link.specs.Receiver.{data_tag};
 ghost use Rattle.base.specs.Meaning.{Called, Means, Untouched, held};
 ghost use Rattle.base.specs.Asked.{asked, data_under, made_at, make_questions};
 
 use crate::state::Base;
-use chain::{interval_tag_key, tag};
 use cipher::{Block, Key};
+use link::data_tag;
 use packet::{Data, MAX_PAYLOAD, Packet, write};
 use refusal::Refusal;
 use source::KeySource;
-
-// The tag of an order under the key of its interval.
-fn order_tag<B: Block>(key: Key, order: &Data) -> [u8; 8]
-    requires { length order.now.payload.now ≤ 64 }
-    ensures { result ≡ data_tag B.make key (data_said order.now) }
-{
-    let mut covered = [0; 68];
-    let Ok(length) = order.covered(&mut covered) else {
-        unreachable()
-    };
-    let Ok(tag) = tag::<B>(interval_tag_key::<B>(key), &covered[0..length]) else {
-        unreachable()
-    };
-    tag
-}
 
 // Writes an order with its tag into the start of the buffer.
 fn write_order<B: Block>(
@@ -38,26 +21,19 @@ fn write_order<B: Block>(
     payload: &[u8],
     out: &mut [u8],
 ) -> Result<usize, Refusal>
-    requires payload_len_bound { length payload.now ≤ 64 }
-    requires payload_in_bounds { 12 + length payload.now ≤ length out.old }
+    requires short { length payload.now ≤ 64 }
+    requires room { 12 + length payload.now ≤ length out.old }
     ensures value { result ≡ Ok (12 + length payload.now) }
     ensures after { out.new ≡ filled (data_bytes (data_under B.make key interval number payload.now)) out.old }
 {
-    let none = [0; 8];
     let draft = Data {
         interval,
         number,
         payload,
-        tag: &none,
+        tag: &[0; 8],
     };
-    let tag = order_tag::<B>(key, &draft);
-    let order = Data {
-        interval,
-        number,
-        payload,
-        tag: &tag,
-    };
-    write(&Packet::Data(order), out)
+    let tag = data_tag::<B>(key, &draft)?;
+    write(&Packet::Data(Data { tag: &tag, ..draft }), out)
 }
 
 impl<B: Block, M: KeySource, D: KeySource> Base<B, M, D> {
@@ -74,7 +50,7 @@ impl<B: Block, M: KeySource, D: KeySource> Base<B, M, D> {
 
     // The questions of a make, and the interval of its order.
     fn order_interval(&self, reading: u64, payload: &[u8], room: usize) -> Result<u32, Refusal>
-        ensures { result ≡ asked (make_questions (held M.KeySource D.KeySource self.now) reading (length payload.now) room) ((reading - self.now.start) / self.now.duration) }
+        ensures { result ≡ asked (make_questions (held M.KeySource D.KeySource self.now) reading (length payload.now) room) ((reading - self.now.schedule.start) / self.now.schedule.duration) }
     {
         if !self.in_order(reading) {
             return Err(Refusal::ReadingOutOfOrder);
@@ -95,6 +71,7 @@ impl<B: Block, M: KeySource, D: KeySource> Base<B, M, D> {
         }
         Ok(interval)
     }
+
     // Writes an order with the payload into the start of the buffer, and answers its length.
     pub fn make(&mut self, reading: u64, payload: &[u8], out: &mut [u8]) -> Result<usize, Refusal>
         ensures rules { (x : AnyBase) → Means M.KeySource D.KeySource self.old x → Called B.Block.make M.KeySource D.KeySource x (to_make reading payload.now (length out.old)) result out.old out.new self.new }

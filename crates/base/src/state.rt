@@ -2,6 +2,7 @@
 ghost use Rattle.std.specs.Prelude.{◌^◌, ◌<◌, ◌≤◌};
 
 use crate::drawing::Drawing;
+use crate::schedule::Schedule;
 use cipher::Block;
 use source::KeySource;
 use std::marker::PhantomData;
@@ -12,15 +13,13 @@ use std::marker::PhantomData;
 pub struct Base<B: Block, M: KeySource, D: KeySource> {
     pub(crate) making: Drawing<M>,
     pub(crate) disclosing: Drawing<D>,
-    pub(crate) start: u64,
-    pub(crate) duration: u32,
-    pub(crate) delay: u8,
+    pub(crate) schedule: Schedule,
     pub(crate) latest: u64,
     pub(crate) made: u16,
     pub(crate) block: PhantomData<B>,
-    ghost lasts: { 1 ≤ duration },
-    ghost least: { 1 ≤ delay },
-    ghost most: { delay ≤ 16 },
-    ghost begun: { start ≤ latest },
+    ghost lasts: { 1 ≤ schedule.duration },
+    ghost least: { 1 ≤ schedule.delay },
+    ghost most: { schedule.delay ≤ 16 },
+    ghost begun: { schedule.start ≤ latest },
     ghost readable: { latest < 2 ^ 52 },
 }

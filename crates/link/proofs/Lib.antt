@@ -8,6 +8,7 @@ pub mod Senders
 pub mod Welcomes
 pub mod Joins
 pub mod Meanings
+pub mod Coverings
 pub mod Granted
 pub mod Theorem
 pub mod Sampled

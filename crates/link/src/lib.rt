@@ -1,4 +1,4 @@
-// The rules of the link as definitions, and the theorem over every history. Node and base promise these definitions.
+// The rules of the link as definitions, the theorem over every history, and what base and node work out alike.
 
 #![tactic(auto)]
 
@@ -6,6 +6,12 @@ ghost use Rattle.std.specs.Prelude.{◌≡◌};
 ghost use Rattle.link.specs.Histories.{LinkStands};
 ghost use Rattle.link.specs.Sender.{AnswersPass, KeysInTime};
 ghost use Rattle.link.specs.Unharmed.{AnswersFinish, UnharmedReads};
+
+mod readings;
+mod tags;
+
+pub use readings::in_order;
+pub use tags::{answer_tag, data_tag};
 
 // The number of packets that a receiver can hold.
 pub fn places() -> usize

@@ -42,6 +42,6 @@ returns g c =
     let bytes = c.args.request.now in
     record {
       rules = λ x means.
-          answered_call g.B.Block.make g.M.KeySource g.D.KeySource b x means c.args.reading c.args.pair bytes out c.write_answer.new.out (request_said c.in_ok-request.request) c.write_answer.result _ c.in_ok-request.ensures c.in_ok-may_answer.ensures refl refl refl refl refl refl refl c.write_answer.ensures.value c.write_answer.ensures.after;
+          answered_call g.B.Block.make g.M.KeySource g.D.KeySource b x means c.args.reading c.args.pair bytes out c.write_answer.new.out (request_said c.in_ok-request.request) c.write_answer.result _ c.in_ok-request.ensures c.in_ok-may_answer.ensures refl refl refl refl refl c.write_answer.ensures.value c.write_answer.ensures.after;
       refused = (done_with c.write_answer.result 48 b _ c.write_answer.ensures.value, done_with c.write_answer.result 48 out _ c.write_answer.ensures.value);
     }

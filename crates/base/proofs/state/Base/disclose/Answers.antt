@@ -24,6 +24,6 @@ returns g c =
     let out = c.args.out.now in
     record {
       rules = λ x means.
-          disclosed_call g.B.Block.make g.M.KeySource g.D.KeySource b x means c.args.reading c.in_ok-interval.interval out c.write_key.new.out c.write_key.result _ c.in_ok-interval.ensures c.draw_to.ensures.given c.draw_to.ensures.serves refl refl refl refl refl refl c.write_key.ensures.value c.write_key.ensures.after;
+          disclosed_call g.B.Block.make g.M.KeySource g.D.KeySource b x means c.args.reading c.in_ok-interval.interval out c.write_key.new.out c.write_key.result _ c.in_ok-interval.ensures c.draw_to.ensures.given c.draw_to.ensures.serves refl refl refl refl c.write_key.ensures.value c.write_key.ensures.after;
       refused = (done_with c.write_key.result 19 b _ c.write_key.ensures.value, done_with c.write_key.result 19 out _ c.write_key.ensures.value);
     }

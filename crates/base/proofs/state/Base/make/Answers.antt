@@ -26,6 +26,6 @@ returns g c =
     let payload = c.args.payload.now in
     record {
       rules = λ x means.
-          made_call g.B.Block.make g.M.KeySource g.D.KeySource b x means c.args.reading c.in_ok-interval.interval c.made_in-number.result payload out c.write_order.new.out c.write_order.result _ c.in_ok-interval.ensures c.made_in-number.ensures c.draw_to.ensures.given c.draw_to.ensures.serves refl refl refl refl refl refl c.write_order.ensures.value c.write_order.ensures.after;
+          made_call g.B.Block.make g.M.KeySource g.D.KeySource b x means c.args.reading c.in_ok-interval.interval c.made_in-number.result payload out c.write_order.new.out c.write_order.result _ c.in_ok-interval.ensures c.made_in-number.ensures c.draw_to.ensures.given c.draw_to.ensures.serves refl refl refl refl c.write_order.ensures.value c.write_order.ensures.after;
       refused = (done_with c.write_order.result (12 + length payload) b _ c.write_order.ensures.value, done_with c.write_order.result (12 + length payload) out _ c.write_order.ensures.value);
     }

@@ -15,9 +15,9 @@ pub returns : goal.returns
 returns g c =
     let first = g.M.KeySource.meaning c.args.first in
     let second = g.D.KeySource.meaning c.args.second in
-    let start = c.args.start in
-    let duration = c.args.duration in
-    let delay = c.args.delay in
+    let start = c.args.schedule.start in
+    let duration = c.args.schedule.duration in
+    let delay = c.args.schedule.delay in
     let fits = c.if-not-may_stand.ensures in
     let pair = pair_of (supply first) (supply second) c.args.commitment start duration delay fits in
     record {
