@@ -17,7 +17,8 @@ pub fn data_tag<B: Block>(key: Key, packet: &Data) -> Result<[u8; 8], Refusal>
 {
     let mut covered = [0; 68];
     let length = packet.covered(&mut covered)?;
-    tag::<B>(interval_tag_key::<B>(key), &covered[..length])
+    let under = interval_tag_key::<B>(key);
+    tag::<B>(under, &covered[..length])
 }
 
 // What the tag of an answer covers: the nonce of the request, and the answer before its tag.

@@ -3,7 +3,6 @@ pub mod Tables
 pub mod Firsts
 pub mod Deeds
 pub mod Outs
-pub mod Coverings
 pub mod Releases
 pub mod Schedules
 pub mod Requests

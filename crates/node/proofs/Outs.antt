@@ -12,15 +12,10 @@ pub record LetOut (p : Data) (verdict : Bool) (n : ℕ) (before after : List ℕ
   pub long : n ≡ length (written (out_of p verdict))
   pub buffer : after ≡ filled (written (out_of p verdict)) before
 
-pub shut : (p : Data) (verdict : Bool) (before : List ℕ) → verdict ≡ false → LetOut p verdict 0 before before
-shut p true before e = absurd (let z : ◌≡◌ {A = ℕ} 0 1 = cc in omega arith)
-shut p false before e = record { says = refl; long = refl; buffer = filled_none before }
-
-pub opened : (p : Data) (verdict : Bool) (n k : ℕ) (before part : List ℕ) → verdict ≡ true → part ≡ p.payload → length p.payload ≡ n → k ≡ n → LetOut p verdict n before (part ++ drop k before)
+pub let_out : (p : Data) (verdict : Bool) (n : ℕ) (before part : List ℕ) → n ≡ length (written (out_of p verdict)) → part ≡ written (out_of p verdict) → LetOut p verdict n before (part ++ drop n before)
 unfolding filled
-opened p false n k before part e copied long same = absurd (let z : ◌≡◌ {A = ℕ} 0 1 = cc in omega arith)
-opened p true n k before part e copied long same = record {
-  says = ap (λ payload. out p.interval p.number payload true) (take_at part (drop k before) n (ap length copied ∙ long) ∙ copied);
-  long = sym long;
-  buffer = λ i. copied i ++ drop ((same ∙ sym long) i) before;
+let_out p verdict n before part long copied = record {
+  says = ap (λ payload. out p.interval p.number payload verdict) (take_at part (drop n before) n (ap length copied ∙ sym long) ∙ copied);
+  long = long;
+  buffer = λ i. copied i ++ drop (long i) before;
 }

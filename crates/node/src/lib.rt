@@ -11,7 +11,6 @@ mod released;
 mod requesting;
 mod slot;
 mod table;
-mod tags;
 mod time;
 mod timing;
 

@@ -1,9 +1,8 @@
 // A place is filled with a packet, gives the packet back, and is freed.
 ghost use Rattle.std.specs.Prelude.{◌≡◌, ◌≤◌, length};
-ghost use Rattle.std.specs.Str.{bytes_eq};
 ghost use Rattle.packet.specs.Kinds.{data_said};
 ghost use Rattle.packet.specs.Writing.{filled};
-ghost use Rattle.link.specs.Receiver.{out_of, same_packet};
+ghost use Rattle.link.specs.Receiver.{out_of};
 ghost use Rattle.node.specs.Answers.{released_says, written};
 ghost use Rattle.node.specs.Places.{nothing, slot_said};
 
@@ -49,7 +48,7 @@ impl Slot {
         Data {
             interval: self.interval,
             number: self.number,
-            payload: &self.payload[0..self.length],
+            payload: &self.payload[..self.length],
             tag: &self.tag,
         }
     }
@@ -61,38 +60,13 @@ impl Slot {
         ensures length { result.length ≡ length (written (out_of (slot_said self.now) verdict)) }
         ensures buffer { out.new ≡ filled (written (out_of (slot_said self.now) verdict)) out.old }
     {
-        if !verdict {
-            return Released {
-                interval: self.interval,
-                number: self.number,
-                length: 0,
-                verdict,
-            };
-        }
-        out[0..self.length].copy_from_slice(&self.payload[0..self.length]);
+        let length = if verdict { self.length } else { 0 };
+        out[..length].copy_from_slice(&self.payload[..length]);
         Released {
             interval: self.interval,
             number: self.number,
-            length: self.length,
+            length,
             verdict,
         }
     }
-}
-
-// The two strings of bytes are equal.
-pub(crate) fn is_equal(bytes: &[u8], other: &[u8]) -> bool
-    ensures { result ≡ bytes_eq bytes.now other.now }
-{
-    bytes == other
-}
-
-// The two packets are equal.
-pub(crate) fn is_same(packet: &Data, other: &Data) -> bool
-    ensures { result ≡ same_packet (data_said packet.now) (data_said other.now) }
-{
-    let (tag, other_tag) = (packet.tag, other.tag);
-    packet.interval == other.interval
-        && packet.number == other.number
-        && is_equal(packet.payload, other.payload)
-        && is_equal(tag, other_tag)
 }

@@ -21,7 +21,6 @@ pub struct Receiver<B> {
     pub(crate) reached: u16,
     pub(crate) table: Table,
     pub(crate) cipher: PhantomData<B>,
-    ghost within: { table.count ≤ 32 },
     ghost apart: { (p : Data) → length (filter (same_packet p) (held table)) ≤ 1 },
     ghost due: { 0 < reached → early_at (clock_of clock) latest.0 reached ≡ false },
 }

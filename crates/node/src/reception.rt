@@ -3,34 +3,27 @@ ghost use Rattle.std.specs.Prelude.{◌≡◌, ◌≤◌, length};
 ghost use Rattle.packet.specs.Kinds.{data_said};
 ghost use Rattle.packet.specs.Writing.{filled};
 ghost use Rattle.link.specs.Questions.{first_no};
-ghost use Rattle.link.specs.Receiver.{answer, same_key, then, to_key, to_release, to_take, world};
+ghost use Rattle.link.specs.Receiver.{answer, then, to_key, to_release, to_take, world};
 ghost use Rattle.link.specs.Reception.{key_questions, right_now, take_questions};
 ghost use Rattle.node.specs.Answers.{asked, key_says, release_length, release_says, take_says, written};
 ghost use Rattle.node.specs.Receivers.{meaning};
 
-use crate::place::is_equal;
 use crate::receiver::Receiver;
 use crate::released::Released;
 use crate::table::PLACES;
-use crate::tags::data_tag;
-use crate::time::{Reading, is_in_order, is_interval};
+use crate::time::{Reading, is_interval};
 use chain::down;
 use cipher::{Block, Key};
+use link::{data_tag, in_order};
 use packet::{Data, MAX_PAYLOAD, read_data, read_key};
 use refusal::Refusal;
-
-fn is_same_key(key: Key, other: Key) -> bool
-    ensures { result ≡ same_key key other }
-{
-    key == other
-}
 
 impl<B: Block> Receiver<B> {
     // The questions of a take, once the packet is read.
     fn may_take(&self, at: Reading, packet: &Data) -> Result<(), Refusal>
         ensures { result ≡ asked (first_no (take_questions (world B.make (meaning self.now).clock) (meaning self.now).state at.0 (data_said packet.now))) }
     {
-        if !is_in_order(self.latest, at) {
+        if !in_order(self.latest.0, at.0) {
             return Err(Refusal::ReadingOutOfOrder);
         }
         if !is_interval(packet.interval) {
@@ -64,7 +57,7 @@ impl<B: Block> Receiver<B> {
     fn may_adopt(&self, at: Reading, key: Key, interval: u16) -> Result<(), Refusal>
         ensures { result ≡ asked (first_no (key_questions (world B.make (meaning self.now).clock) (meaning self.now).state at.0 key interval)) }
     {
-        if !is_in_order(self.latest, at) {
+        if !in_order(self.latest.0, at.0) {
             return Err(Refusal::ReadingOutOfOrder);
         }
         if !is_interval(interval) {
@@ -77,7 +70,7 @@ impl<B: Block> Receiver<B> {
             return Err(Refusal::KeyNotDue);
         }
         let end = down::<B>(key, u32::from(interval - self.reached));
-        if !is_same_key(end, self.newest) {
+        if end != self.newest {
             return Err(Refusal::KeyNotOfChain);
         }
         Ok(())
@@ -104,9 +97,10 @@ impl<B: Block> Receiver<B> {
         ensures { result ≡ right_now (world B.make (meaning self.now).clock) (meaning self.now).state (data_said packet.now) }
     {
         let steps = u32::from(self.reached.saturating_sub(packet.interval));
-        let right = data_tag::<B>(down::<B>(self.newest, steps), packet);
-        let tag = packet.tag;
-        is_equal(tag, &right)
+        match data_tag::<B>(down::<B>(self.newest, steps), packet) {
+            Ok(right) => *packet.tag == right,
+            Err(_) => false,
+        }
     }
 
     // Lets out the first packet whose key is known, with its payload if its tag is right.

@@ -1,4 +1,5 @@
 // What a release tells of the packet that it let out.
+ghost use Rattle.std.specs.Prelude.{◌≤◌};
 
 // The payload, of `length` bytes, is in the start of the buffer; it has none where the verdict is false.
 #[derive(Clone, Copy, PartialEq, Eq, Debug)]
@@ -7,4 +8,5 @@ pub struct Released {
     pub number: u8,
     pub length: usize,
     pub verdict: bool,
+    ghost short: { length ≤ 64 },
 }

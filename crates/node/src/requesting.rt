@@ -11,13 +11,12 @@ ghost use Rattle.node.specs.Nodes.{asking, EndsWell, leaves, node_of, rhythm_fit
 ghost use Rattle.node.specs.Receivers.{meaning};
 
 use crate::clock::Clock;
-use crate::place::is_equal;
 use crate::receiver::Receiver;
 use crate::table::Table;
-use crate::tags::answer_tag;
-use crate::time::{LAST, Reading, SenderTime, is_in_order, is_time};
+use crate::time::{LAST, Reading, SenderTime};
 use crate::timing::offset;
 use cipher::{Block, Key};
+use link::{answer_tag, in_order};
 use packet::{Answer, Packet, Request, read_answer, write};
 use refusal::Refusal;
 use std::marker::PhantomData;
@@ -53,8 +52,7 @@ fn is_schedule(answer: &Answer) -> bool
 {
     is_rhythm(answer)
         && answer.interval <= LAST
-        && is_time(answer.time)
-        && answer.start <= answer.time
+        && in_order(answer.start, answer.time)
 }
 
 impl Requesting {
@@ -69,7 +67,7 @@ impl Requesting {
         ensures value { told sent result ≡ told (to_send (asking pair nonce at drift)) (requests (asking pair nonce at drift) (length out.old)) }
         ensures after { out.new ≡ leaves (requests (asking pair nonce at drift) (length out.old)) out.old }
     {
-        if !is_in_order(Reading(0), at) {
+        if !in_order(0, at.0) {
             return Err(Refusal::ReadingOutOfOrder);
         }
         if !is_drift(drift) {
@@ -87,7 +85,8 @@ impl Requesting {
 
     // The clock by which a receiver that joins with an answer goes.
     fn clock_by(&self, answer: &Answer) -> Clock
-        requires { (self.now.requested.0 < 2 ^ 52) × (schedule_fits (answer_said answer.now) ≡ true) }
+        requires requested { self.now.requested.0 < 2 ^ 52 }
+        requires schedule { schedule_fits (answer_said answer.now) ≡ true }
         ensures { clock_of result ≡ (joined (node_of self.now) 0 (answer_said answer.now)).clock }
     {
         Clock {
@@ -103,18 +102,20 @@ impl Requesting {
     fn may_join<B: Block>(&self, at: Reading, answer: &Answer) -> Result<(), Refusal>
         ensures { result ≡ asked (first_no (join_questions B.make (node_of self.now) at.0 (answer_said answer.now))) }
     {
-        if !is_in_order(self.requested, at) {
+        if !in_order(self.requested.0, at.0) {
             return Err(Refusal::ReadingOutOfOrder);
         }
-        let tag = answer.tag;
-        if !is_equal(tag, &answer_tag::<B>(self.pair, self.nonce, answer)) {
+        if *answer.tag != answer_tag::<B>(self.pair, &self.nonce, answer) {
             return Err(Refusal::WrongAnswerTag);
         }
         if !is_schedule(answer) {
             return Err(Refusal::BadSchedule);
         }
         let clock = self.clock_by(answer);
-        if !clock.was_due(SenderTime(answer.time as i64)) {
+        let answered = SenderTime {
+            micros: answer.time as i64,
+        };
+        if !clock.was_due(answered) {
             return Err(Refusal::CommitmentNotDue);
         }
         Ok(())
@@ -133,10 +134,8 @@ impl Requesting {
     pub fn check<B: Block>(&self, at: Reading, bytes: &[u8]) -> Result<(), Refusal>
         ensures { result ≡ asked (first_no (finish_questions B.make (node_of self.now) at.0 bytes.now)) }
     {
-        match self.welcome::<B>(at, bytes) {
-            Ok(_) => Ok(()),
-            Err(refusal) => Err(refusal),
-        }
+        let _answer = self.welcome::<B>(at, bytes)?;
+        Ok(())
     }
 
     // Makes a receiver of the node, or gives the node back. Where a base wrote the bytes, every history ends well.

@@ -8,7 +8,8 @@ use crate::time::{Reading, SenderTime};
 
 // What is added to a reading: the sender's time in its answer, less the reading at the request, and the drift allowed.
 pub(crate) fn offset(answered: u64, requested: u64, drift: u32) -> i64
-    requires { (answered < 2 ^ 52) × (requested < 2 ^ 52) }
+    requires answered { answered < 2 ^ 52 }
+    requires requested { requested < 2 ^ 52 }
     ensures value { result ≡ offset_of answered requested drift }
     ensures least { negsuc (2 ^ 52) ≤ℤ result }
     ensures most { result ≤ℤ pos (2 ^ 53) }
@@ -20,17 +21,18 @@ impl Clock {
     // The latest time that the sender's clock can show at a reading.
     fn sender_time(&self, at: Reading) -> SenderTime
         requires { at.0 < 2 ^ 52 }
-        ensures { result.0 ≡ sender_time (clock_of self.now) at.0 }
+        ensures { result.micros ≡ sender_time (clock_of self.now) at.0 }
     {
-        SenderTime(at.0 as i64 + self.offset)
+        SenderTime {
+            micros: at.0 as i64 + self.offset,
+        }
     }
 
     // The latest interval that the sender can be in at a time.
     fn interval_at(&self, time: SenderTime) -> i64
-        requires { (negsuc (2 ^ 53) ≤ℤ time.0) × (time.0 ≤ℤ pos (2 ^ 54)) }
-        ensures { result ≡ interval_at (clock_of self.now).schedule time.0 }
+        ensures { result ≡ interval_at (clock_of self.now).schedule time.micros }
     {
-        let since = time.0 - self.start as i64;
+        let since = time.micros - self.start as i64;
         i64::from(self.number) + since.div_euclid(i64::from(self.duration))
     }
 
@@ -45,8 +47,7 @@ impl Clock {
 
     // The key of the schedule's own interval could be public at a time.
     pub(crate) fn was_due(&self, time: SenderTime) -> bool
-        requires { (negsuc (2 ^ 53) ≤ℤ time.0) × (time.0 ≤ℤ pos (2 ^ 54)) }
-        ensures { result ≡ was_due (clock_of self.now).schedule time.0 }
+        ensures { result ≡ was_due (clock_of self.now).schedule time.micros }
     {
         self.number == 0 || i64::from(self.number) + i64::from(self.delay) <= self.interval_at(time)
     }

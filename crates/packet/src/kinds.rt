@@ -12,14 +12,14 @@ pub(crate) const KEY: u8 = 4;
 pub const MAX_PAYLOAD: usize = 64;
 
 // A node asks to join.
-#[derive(Clone, Copy)]
+#[derive(Clone, Copy, PartialEq, Eq, Debug)]
 pub struct Request<'a> {
     pub nonce: &'a [u8; 8],
 }
 
 // A base answers with its time, the last key disclosed, that key's interval and when it began, how long an interval
 // lasts, and the disclosure delay.
-#[derive(Clone, Copy)]
+#[derive(Clone, Copy, PartialEq, Eq, Debug)]
 pub struct Answer<'a> {
     pub time: u64,
     pub key: &'a [u8; 16],
@@ -31,7 +31,7 @@ pub struct Answer<'a> {
 }
 
 // An order of a base, with its running number in the interval.
-#[derive(Clone, Copy)]
+#[derive(Clone, Copy, PartialEq, Eq, Debug)]
 pub struct Data<'a> {
     pub interval: u16,
     pub number: u8,
@@ -40,13 +40,13 @@ pub struct Data<'a> {
 }
 
 // A base discloses the key of an interval.
-#[derive(Clone, Copy)]
+#[derive(Clone, Copy, PartialEq, Eq, Debug)]
 pub struct Disclosure<'a> {
     pub interval: u16,
     pub key: &'a [u8; 16],
 }
 
-#[derive(Clone, Copy)]
+#[derive(Clone, Copy, PartialEq, Eq, Debug)]
 pub enum Packet<'a> {
     Request(Request<'a>),
     Answer(Answer<'a>),

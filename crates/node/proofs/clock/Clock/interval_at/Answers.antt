@@ -7,7 +7,7 @@ use Rattle.node.proofs.clock.Clock.interval_at.Goals as goal
 pub returns : goal.returns
 returns c =
     let self = c.args.self.now in
-    let time = c.args.time.0 in
+    let time = c.args.time.micros in
     let number = c.from.ensures in
     let duration = c.from-2.ensures in
     let since : ℤ = time -ℤ pos self.start in

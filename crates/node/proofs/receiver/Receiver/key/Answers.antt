@@ -37,7 +37,7 @@ invariant_of-self g c =
     let self = c.args.self.now in
     let done = key_done cipher (meaning self) c.args.at.0 c.args.bytes.now (disclosure_said c.in_ok-disclosed.disclosed) c.from_bytes-key.result c.in_ok-disclosed.ensures c.from_bytes-key.ensures.value (asked_yes _ _ c.in_ok-may_adopt.ensures) in
     let sound = sound_then cipher (meaning self) (to_key c.args.at.0 c.args.bytes.now) _ done.1 (record { apart = self.apart; due = self.due }) in
-    record { within = self.within; apart = self.apart; due = sound.due }
+    record { apart = self.apart; due = sound.due }
 
 pub returns : goal.returns
 returns g c =

@@ -34,20 +34,20 @@ returns-in_err-may_take g c =
     }
 
 pub add-requires : goal.add-requires
-add-requires g c = (
-  has_room (world g.B.Block.make (clock_of c.args.self.now.clock)) (meaning c.args.self.now).state c.args.at.0 (data_said c.in_ok-packet.packet) (asked_yes _ _ c.in_ok-may_take.ensures),
-  (c.args.self.now.within, payload_fits c.args.bytes.now (data_said c.in_ok-packet.packet) c.in_ok-packet.ensures),
-)
+add-requires g c = record {
+  room = has_room (world g.B.Block.make (clock_of c.args.self.now.clock)) (meaning c.args.self.now).state c.args.at.0 (data_said c.in_ok-packet.packet) (asked_yes _ _ c.in_ok-may_take.ensures);
+  short = payload_fits c.args.bytes.now (data_said c.in_ok-packet.packet) c.in_ok-packet.ensures;
+}
 
 pub invariant_of-self : goal.invariant_of-self
 invariant_of-self g c =
     let cipher = g.B.Block.make in
     let self = c.args.self.now in
-    let done = take_done cipher (meaning self) c.args.at.0 c.args.bytes.now (data_said c.in_ok-packet.packet) (held c.add.new.self) c.in_ok-packet.ensures (asked_yes _ _ c.in_ok-may_take.ensures) c.add.ensures.held in
+    let done = take_done cipher (meaning self) c.args.at.0 c.args.bytes.now (data_said c.in_ok-packet.packet) (held c.add.new.self) c.in_ok-packet.ensures (asked_yes _ _ c.in_ok-may_take.ensures) c.add.ensures in
     let sound = sound_then cipher (meaning self) (to_take c.args.at.0 c.args.bytes.now) _ done.1 (record { apart = self.apart; due = self.due }) in
-    record { within = c.add.ensures.count; apart = sound.apart; due = sound.due }
+    record { apart = sound.apart; due = sound.due }
 
 pub returns : goal.returns
 returns g c =
-    let done = take_done g.B.Block.make (meaning c.args.self.now) c.args.at.0 c.args.bytes.now (data_said c.in_ok-packet.packet) (held c.add.new.self) c.in_ok-packet.ensures (asked_yes _ _ c.in_ok-may_take.ensures) c.add.ensures.held in
+    let done = take_done g.B.Block.make (meaning c.args.self.now) c.args.at.0 c.args.bytes.now (data_said c.in_ok-packet.packet) (held c.add.new.self) c.in_ok-packet.ensures (asked_yes _ _ c.in_ok-may_take.ensures) c.add.ensures in
     record { answer = ap holds c.len.ensures ∙ done.0; after = done.1 }

@@ -6,10 +6,10 @@ use Rattle.node.proofs.requesting.Requesting.clock_by.Goals as goal
 
 pub offset-requires : goal.offset-requires
 offset-requires c =
-    let within = schedule_within (answer_said c.args.answer.now) c.requires.1 in
-    (within.shown, c.requires.0)
+    let within = schedule_within (answer_said c.args.answer.now) c.requires.schedule in
+    record { answered = within.shown; requested = c.requires.requested }
 
 pub invariant_of-result : goal.invariant_of-result
 invariant_of-result c =
-    let within = schedule_within (answer_said c.args.answer.now) c.requires.1 in
+    let within = schedule_within (answer_said c.args.answer.now) c.requires.schedule in
     record { lasting = within.lasting; started = omega arith; least = omega (arith, ints); most = omega (arith, ints) }

@@ -11,7 +11,7 @@ clock_by-requires g c =
     let cipher = g.B.Block.make in
     let node = node_of c.args.self in
     let granted = welcomed_ok _ _ _ c.in-Ok.ensures in
-    (requested_below cipher node c.args.at.0 c.args.bytes.now _ granted.0 granted.1, schedule_told cipher node c.args.at.0 c.args.bytes.now _ granted.0 granted.1)
+    record { requested = requested_below cipher node c.args.at.0 c.args.bytes.now _ granted.0 granted.1; schedule = schedule_told cipher node c.args.at.0 c.args.bytes.now _ granted.0 granted.1 }
 
 pub invariant_of-result : goal.invariant_of-result
 invariant_of-result g c =
@@ -20,9 +20,9 @@ invariant_of-result g c =
     let t = c.args.at.0 in
     let bytes = c.args.bytes.now in
     let granted = welcomed_ok _ _ _ c.in-Ok.ensures in
-    let gives = finish_gives cipher node t bytes (answer_said c.in-Ok.answer) granted.0 granted.1 (clock_of c.clock_by.result) c.from_bytes.result (held c.new.result) c.clock_by.ensures c.from_bytes.ensures.value c.new.ensures.held in
+    let gives = finish_gives cipher node t bytes (answer_said c.in-Ok.answer) granted.0 granted.1 (clock_of c.clock_by.result) c.from_bytes.result (held c.new.result) c.clock_by.ensures c.from_bytes.ensures.value c.new.ensures in
     let sound = joined_sound cipher node t bytes _ gives in
-    record { within = c.new.ensures.count; apart = sound.apart; due = sound.due }
+    record { apart = sound.apart; due = sound.due }
 
 pub returns-in-Ok : goal.returns-in-Ok
 returns-in-Ok g c =
@@ -31,7 +31,7 @@ returns-in-Ok g c =
     let t = c.args.at.0 in
     let bytes = c.args.bytes.now in
     let granted = welcomed_ok _ _ _ c.in-Ok.ensures in
-    let gives = finish_gives cipher node t bytes (answer_said c.in-Ok.answer) granted.0 granted.1 (clock_of c.clock_by.result) c.from_bytes.result (held c.new.result) c.clock_by.ensures c.from_bytes.ensures.value c.new.ensures.held in
+    let gives = finish_gives cipher node t bytes (answer_said c.in-Ok.answer) granted.0 granted.1 (clock_of c.clock_by.result) c.from_bytes.result (held c.new.result) c.clock_by.ensures c.from_bytes.ensures.value c.new.ensures in
     record { value = gives; back = tt; history = ends_well cipher node t bytes _ gives }
 
 pub returns-in-Err : goal.returns-in-Err

@@ -1,18 +1,25 @@
-use Rattle.std.proofs.Common.{◌≡◌, ◌-◌, take, ◌∙◌, arith}
+use Rattle.std.proofs.Common.{◌≡◌, ◌≤◌, length, take, sym, refl, ap, ◌∙◌, arith}
 use Rattle.std.proofs.lemmas.List.{length-take}
+use Rattle.link.specs.Receiver.{out_of}
+use Rattle.node.specs.Answers.{written}
 use Rattle.node.specs.Places.{slot_said}
-use Rattle.node.proofs.Outs.{shut, opened}
+use Rattle.node.proofs.Outs.{let_out}
 use Rattle.node.proofs.slot.Slot.let_out.Goals as goal
-
-pub returns-then-not-verdict : goal.returns-then-not-verdict
-returns-then-not-verdict c =
-    let out = shut (slot_said c.args.self.now) c.args.verdict c.args.out.now c.if-not-verdict.true in
-    record { says = out.says; length = out.long; buffer = out.buffer }
+use Rattle.node.proofs.slot.Slot.let_out.Goals.{then-verdict, else-verdict}
 
 pub returns : goal.returns
 returns c =
     let self = c.args.self.now in
-    let all : self.length - 0 ≡ self.length = omega arith in
-    let copied = c.copy_from_slice.ensures.after ∙ (λ i. take (all i) self.payload) in
-    let out = opened (slot_said self) c.args.verdict self.length (self.length - 0) c.args.out.now c.copy_from_slice.new.self c.if-not-verdict.false copied (simp length-take (omega arith)) all in
+    let n = c.if-verdict.length in
+    let part = written (out_of (slot_said self) c.args.verdict) in
+    let front : take n self.payload ≡ part = elim c.if-verdict.branch [
+      | then-verdict w ↦ rw (w.length-is, w.if-verdict.true) refl
+      | else-verdict w ↦ rw (w.length-is, w.if-verdict.false) refl
+    ] in
+    let within : n ≤ 64 = elim c.if-verdict.branch [
+      | then-verdict w ↦ omega (arith, w.length-is, self.short)
+      | else-verdict w ↦ omega (arith, w.length-is)
+    ] in
+    let long : n ≡ length part = sym (simp length-take (omega arith)) ∙ ap length front in
+    let out = let_out (slot_said self) c.args.verdict n c.args.out.now c.copy_from_slice.new.self long (c.copy_from_slice.ensures.after ∙ front) in
     record { says = out.says; length = out.long; buffer = out.buffer }

@@ -1,34 +1,23 @@
-use Rattle.std.proofs.Common.{◌≡◌, Bool, true, false, ◌||◌, List, [], ◌∷◌, sym, ap, ◌∙◌, arith}
+use Rattle.std.proofs.Common.{◌≡◌, ◌||◌, List, [], ◌∷◌, map, refl, ap, ◌∙◌, rules, tests}
+use Rattle.std.specs.List.{list_any}
+use Rattle.std.proofs.lemmas.Iterator.{YieldsList-from_slice}
+use Rattle.std.proofs.lemmas.Iterator.Search.{any_from_yields_List}
 use Rattle.cipher.specs.declared.key.Key.{Key}
 use Rattle.packet.specs.Kinds.{Data, data_said}
 use Rattle.link.specs.Reception.{World, has}
 use Rattle.link.specs.Receiver.{same_packet, world}
+use Rattle.node.specs.declared.slot.Slot.{Slot}
 use Rattle.node.specs.Places.{slot_said}
-use Rattle.node.proofs.Tables.{one_on, none_left}
 use Rattle.node.proofs.table.Table.holds.Goals as goal
 
--- the answer once the next packet is compared
-compared : (w : World Data Key) (p q : Data) (all now behind : List Data) (b : Bool) → has w p all ≡ has w p now → now ≡ q ∷ behind → w.same p q ≡ b → has w p all ≡ (b || has w p behind)
-compared w p q all now behind b inv is e = inv ∙ ap (has w p) is ∙ ap (λ x. x || has w p behind) e
-
-ended : (w : World Data Key) (p : Data) (all now : List Data) → has w p all ≡ has w p now → now ≡ [] → has w p all ≡ false
-ended w p all now inv is = inv ∙ ap (has w p) is
-
-pub returns-then-is_same : goal.returns-then-is_same
-returns-then-is_same c = λ cipher clock.
-    let self = c.args.self.now in
-    let p = data_said c.args.packet.now in
-    let same = ap (same_packet p) (sym c.packet.ensures) ∙ sym c.is_same.ensures ∙ c.if-is_same.true in
-    sym (compared (world cipher clock) p _ _ _ _ true (c.loop-i.invariant cipher clock) (one_on slot_said self.slots c.loop-i.i self.count _ (omega arith) (omega arith)) same)
-
-pub loop-i-preserved : goal.loop-i-preserved
-loop-i-preserved c = λ cipher clock.
-    let self = c.args.self.now in
-    let p = data_said c.args.packet.now in
-    let same = ap (same_packet p) (sym c.packet.ensures) ∙ sym c.is_same.ensures ∙ c.if-is_same.false in
-    compared (world cipher clock) p _ _ _ _ false (c.loop-i.invariant cipher clock) (one_on slot_said self.slots c.loop-i.i self.count _ (omega arith) (omega arith)) same
+-- a packet is among those that places mean
+any_has : (w : World Data Key) (p : Data) (slots : List Slot) → list_any (λ s. w.same p (slot_said s)) slots ≡ has w p (map slot_said slots)
+any_has w p [] = refl
+any_has w p (s ∷ slots) = ap (λ b. w.same p (slot_said s) || b) (any_has w p slots)
 
 pub returns : goal.returns
 returns c = λ cipher clock.
-    let self = c.args.self.now in
-    sym (ended (world cipher clock) (data_said c.args.packet.now) _ _ (c.loop-i.invariant cipher clock) (none_left slot_said self.slots c.loop-i.i self.count (omega arith)))
+    let slots = c.taken.result.now in
+    let p = data_said c.args.packet.now in
+    let found = any_from_yields_List (λ s. same_packet p (slot_said s)) _ _ c.any.result c.any.ensures.ran (YieldsList-from_slice slots cc) (λ x b q k. search (rules, tests)) in
+    found ∙ any_has (world cipher clock) p slots ∙ ap (has (world cipher clock) p) c.taken.ensures
