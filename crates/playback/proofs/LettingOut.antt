@@ -7,7 +7,7 @@ use Rattle.link.specs.Receiver.{Receiver, to_release, answer, then, none, after 
 use Rattle.node.specs.Answers.{release_length, release_says, released_says, written}
 use Rattle.node.specs.declared.released.Released.{Released}
 use Rattle.playback.specs.Parts.{receiving, until_none}
-use Rattle.playback.specs.Releasing.{LetsOut, out_length, told_out, wrote}
+use Rattle.playback.specs.Releasing.{LetsOut, told_out, wrote}
 use Rattle.playback.proofs.Releases.{Unfolds, unfolds}
 
 module _ (cipher : Make) (r r' : Receiver) (before after : List ℕ) where
@@ -21,15 +21,12 @@ module _ (cipher : Make) (r r' : Receiver) (before after : List ℕ) where
   pub record Lets (o : Option Released) : Type 0 where
     pub lets : LetsOut cipher (receiving r) (receiving r') (told_out o after)
     pub buffer : after ≡ filled (wrote (told_out o after)) before
-    pub within : out_length o ≤ 64
 
   -- in a buffer of 64 bytes
   roomy : (result : Result (Option Released) Refusal) (room : ℕ) → room ≡ 64 → ReleasedAs result room → ReleasedAs result 64
   roomy result room e h = subst (ReleasedAs result) e h
 
   -- the payload that is told is the whole front of that length, so that the buffer is as long
-  front_within : (x : Released) → length after ≡ 64 → x.length ≡ length (take x.length after) → x.length ≤ 64
-  front_within x same long = let short = length-take x.length after in omega arith
 
   pub lets_out : (o : Option Released) (room : ℕ) → room ≡ 64 → length after ≡ 64 → ReleasedAs (Ok o) room → Lets o
   lets_out o room e same h = go o (roomy (Ok o) room e h)
@@ -37,7 +34,7 @@ module _ (cipher : Make) (r r' : Receiver) (before after : List ℕ) where
       go : (o : Option Released) → ReleasedAs (Ok o) 64 → Lets o
       go None h =
           let all : Unfolds cipher r none = subst (Unfolds cipher r) (sym h.says) (unfolds cipher r) in
-          record { lets = (all.0, ap receiving (all.1 ∙ sym h.leaves)); buffer = h.buffer ∙ ap (λ a. filled (written a) before) (sym h.says); within = omega arith }
+          record { lets = (all.0, ap receiving (all.1 ∙ sym h.leaves)); buffer = h.buffer ∙ ap (λ a. filled (written a) before) (sym h.says) }
       go (Some x) h =
           let all : Unfolds cipher r (released_says x after) = subst (Unfolds cipher r) (sym h.says) (unfolds cipher r) in
           record {
@@ -46,7 +43,6 @@ module _ (cipher : Make) (r r' : Receiver) (before after : List ℕ) where
               ap receiving (subst (λ q. afterwards cipher r (until_none cipher r) ≡ afterwards cipher q (until_none cipher q)) (sym h.leaves) all.1),
             );
             buffer = h.buffer ∙ ap (λ a. filled (written a) before) (sym h.says);
-            within = (front_within x same (h.long ∙ ap (λ a. length (written a)) (sym h.says)));
           }
 
   pub never_refused : (f : Refusal) (room : ℕ) → room ≡ 64 → ReleasedAs (Err f) room → ⊥

@@ -19,14 +19,14 @@ part_of stage.Stage.TheVariants.Silent = silent
 part_of (stage.Stage.TheVariants.Asking node) = asking (node_of node)
 part_of (stage.Stage.TheVariants.Receiving receiver) = receiving (meaning receiver)
 
-abbrev pub outcome_said : outcome.Outcome.Outcome → Hearing
-outcome_said (outcome.Outcome.TheVariants.Refused refusal) = answered (refused refusal)
-outcome_said outcome.Outcome.TheVariants.TooSoon = too_soon
-outcome_said outcome.Outcome.TheVariants.Repeated = repeated
-outcome_said outcome.Outcome.TheVariants.Asked = asked
-outcome_said outcome.Outcome.TheVariants.Joined = has_joined
-outcome_said (outcome.Outcome.TheVariants.Held count) = answered (holds count)
-outcome_said (outcome.Outcome.TheVariants.Adopted count) = answered (steps count)
+abbrev pub outcome_said : Result outcome.Outcome.Outcome Refusal → Hearing
+outcome_said (Err refusal) = answered (refused refusal)
+outcome_said (Ok outcome.Outcome.TheVariants.TooSoon) = too_soon
+outcome_said (Ok outcome.Outcome.TheVariants.Repeated) = repeated
+outcome_said (Ok outcome.Outcome.TheVariants.Asked) = asked
+outcome_said (Ok outcome.Outcome.TheVariants.Joined) = has_joined
+outcome_said (Ok (outcome.Outcome.TheVariants.Held count)) = answered (holds count)
+outcome_said (Ok (outcome.Outcome.TheVariants.Adopted count)) = answered (steps count)
 
 -- a receiver after a call, if there is one
 abbrev pub called : Make → Receiver → Option Call → Receiver

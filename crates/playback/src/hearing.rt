@@ -1,12 +1,11 @@
 // What the node makes of each packet, by how far it has come.
 ghost use Rattle.std.specs.Prelude.{◌≡◌, ℕ, ◌^◌, ◌<◌, List, Ok};
 ghost use Rattle.packet.specs.Kinds.{said};
-ghost use Rattle.node.specs.Answers.{key_says, take_says};
 ghost use Rattle.node.specs.Nodes.{node_of};
 ghost use Rattle.node.specs.Receivers.{meaning};
 ghost use Rattle.playback.specs.Parts.{silent, asking, receiving, offers};
 ghost use Rattle.playback.specs.Stages.{asked_by, called, Heard, joined_by, outcome_said, part_of};
-ghost use Rattle.playback.specs.Steps.{answered, packet_hearing};
+ghost use Rattle.playback.specs.Steps.{packet_hearing};
 
 use crate::outcome::Outcome;
 use crate::stage::Stage;
@@ -15,38 +14,20 @@ use node::{Reading, Receiver, Requesting};
 use packet::{Packet, read};
 use refusal::Refusal;
 
-fn held(answer: Result<usize, Refusal>) -> Outcome
-    ensures { outcome_said result ≡ answered (take_says answer) }
-{
-    match answer {
-        Ok(count) => Outcome::Held(count),
-        Err(refusal) => Outcome::Refused(refusal),
-    }
-}
-
-fn adopted(answer: Result<u32, Refusal>) -> Outcome
-    ensures { outcome_said result ≡ answered (key_says answer) }
-{
-    match answer {
-        Ok(steps) => Outcome::Adopted(steps),
-        Err(refusal) => Outcome::Refused(refusal),
-    }
-}
-
 // Data are taken and keys offered; all else is passed over.
 fn receive<B: Block>(
     receiver: &mut Receiver<B>,
     at: Reading,
     bytes: &[u8],
     packet: Packet,
-) -> Outcome
+) -> Result<Outcome, Refusal>
     ensures outcome { outcome_said result ≡ packet_hearing B.make (receiving (meaning receiver.old)) at.0 bytes.now (said packet.entry) }
     ensures after { meaning receiver.new ≡ called B.make (meaning receiver.old) (offers at.0 bytes.now (Ok (said packet.entry))) }
 {
     match packet {
-        Packet::Data(_) => held(receiver.take(at, bytes)),
-        Packet::Key(_) => adopted(receiver.key(at, bytes)),
-        Packet::Request(_) | Packet::Answer(_) => Outcome::Repeated,
+        Packet::Data(_) => Ok(Outcome::Held(receiver.take(at, bytes)?)),
+        Packet::Key(_) => Ok(Outcome::Adopted(receiver.key(at, bytes)?)),
+        Packet::Request(_) | Packet::Answer(_) => Ok(Outcome::Repeated),
     }
 }
 
@@ -56,7 +37,7 @@ const DRIFT: u32 = 10_000;
 fn ask<B: Block>(pair: Key, at: Reading, packet: Packet) -> (Stage<B>, Outcome)
     requires { at.0 < 2 ^ 52 }
     ensures part { part_of result.0 ≡ asked_by pair at.0 (Ok (said packet.entry)) }
-    ensures outcome { (bytes : List ℕ) → outcome_said result.1 ≡ packet_hearing B.make silent at.0 bytes (said packet.entry) }
+    ensures outcome { (bytes : List ℕ) → outcome_said (Ok result.1) ≡ packet_hearing B.make silent at.0 bytes (said packet.entry) }
 {
     match packet {
         Packet::Request(request) => {
@@ -75,35 +56,35 @@ fn join<B: Block>(
     at: Reading,
     bytes: &[u8],
     packet: Packet,
-) -> (Stage<B>, Outcome)
+) -> (Stage<B>, Result<Outcome, Refusal>)
     ensures part { part_of result.0 ≡ joined_by B.make (node_of node) at.0 bytes.now (Ok (said packet.entry)) }
     ensures outcome { outcome_said result.1 ≡ packet_hearing B.make (asking (node_of node)) at.0 bytes.now (said packet.entry) }
 {
     match packet {
         Packet::Answer(_) => match node.finish::<B>(at, bytes) {
-            Ok(receiver) => (Stage::Receiving(receiver), Outcome::Joined),
-            Err(back) => {
-                let (node, refusal) = back;
-                (Stage::Asking(node), Outcome::Refused(refusal))
-            }
+            Ok(receiver) => (Stage::Receiving(receiver), Ok(Outcome::Joined)),
+            Err((node, refusal)) => (Stage::Asking(node), Err(refusal)),
         },
-        Packet::Request(_) => (Stage::Asking(node), Outcome::Repeated),
-        Packet::Data(_) | Packet::Key(_) => (Stage::Asking(node), Outcome::TooSoon),
+        Packet::Request(_) => (Stage::Asking(node), Ok(Outcome::Repeated)),
+        Packet::Data(_) | Packet::Key(_) => (Stage::Asking(node), Ok(Outcome::TooSoon)),
     }
 }
 
 impl<B: Block> Stage<B> {
     // What the node makes of bytes at a time, and how far it has come then.
-    pub(crate) fn hear(self, pair: Key, at: Reading, bytes: &[u8]) -> (Stage<B>, Outcome)
+    pub(crate) fn hear(self, pair: Key, at: Reading, bytes: &[u8]) -> (Stage<B>, Result<Outcome, Refusal>)
         requires { at.0 < 2 ^ 52 }
         ensures { Heard B.make pair (part_of self) at.0 bytes.now (part_of result.0) (outcome_said result.1) }
     {
         let packet = match read(bytes) {
             Ok(packet) => packet,
-            Err(refusal) => return (self, Outcome::Refused(refusal)),
+            Err(refusal) => return (self, Err(refusal)),
         };
         match self {
-            Stage::Silent => ask(pair, at, packet),
+            Stage::Silent => {
+                let (stage, outcome) = ask(pair, at, packet);
+                (stage, Ok(outcome))
+            }
             Stage::Asking(node) => join(node, at, bytes, packet),
             Stage::Receiving(mut receiver) => {
                 let outcome = receive(&mut receiver, at, bytes, packet);

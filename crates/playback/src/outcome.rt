@@ -1,10 +1,7 @@
-// What the node made of a record.
-use refusal::Refusal;
+// What the node made of a record that it did not refuse.
 
-#[derive(Clone, Copy)]
+#[derive(Clone, Copy, PartialEq, Eq, Debug)]
 pub enum Outcome {
-    // A packet that the node's call refused, or bytes that are no packet.
-    Refused(Refusal),
     // Passed over: the node has yet to ask, or to join.
     TooSoon,
     // Passed over: the node has asked, or joined, before.

@@ -1,12 +1,12 @@
 // Replay: a capture is walked, and the orders that come out make a capture of their own.
-ghost use Rattle.std.specs.Prelude.{◌≡◌, ◌+◌, ◌≤◌, length, take, IfOk, Some};
+ghost use Rattle.std.specs.Prelude.{◌≡◌, ◌+◌, ◌≤◌, length, take, IfOk};
 ghost use Rattle.packet.specs.Writing.{filled, Puts};
 ghost use Rattle.capture.specs.declared.forms.ByteOrder.TheVariants.{Little};
 ghost use Rattle.capture.specs.Format.{header_bytes, record_bytes, record_length, record_said};
 ghost use Rattle.playback.specs.Counting.{Counted, counts_of, orders_bytes, Regular, StepFits, StepsFit};
 ghost use Rattle.playback.specs.Playing.{header_out, replayed};
 ghost use Rattle.playback.specs.Replays.{GivesBack, ReplaysStand};
-ghost use Rattle.playback.specs.Walks.{payload_length, step_said, to_come};
+ghost use Rattle.playback.specs.Walks.{step_said, to_come};
 
 use crate::counts::Counts;
 use crate::opening::{MAX_RECORD, RC5, open};
@@ -34,8 +34,7 @@ fn put_order(order: &Record, written: usize, out: &mut [u8]) -> usize
 impl Counts {
     // A record is read; a true release is written behind what is written so far.
     fn after(self, step: Step, payload: &[u8; MAX_PAYLOAD], out: &mut [u8]) -> Counts
-        requires step_fits { StepFits self (step_said step payload.now) (length out.old) }
-        requires step_bound { payload_length (Some step) ≤ 64 }
+        requires { StepFits self (step_said step payload.now) (length out.old) }
         ensures { Counted self (step_said step.entry payload.now) result out.old out.new }
     {
         match step {
@@ -48,7 +47,7 @@ impl Counts {
                 let order = Record {
                     seconds: moment.seconds,
                     micros: moment.micros,
-                    bytes: &payload[0..length],
+                    bytes: &payload[..length],
                 };
                 Counts {
                     written: put_order(&order, self.written, out),

@@ -2,6 +2,7 @@
 use crate::outcome::Outcome;
 use capture::Record;
 use node::Released;
+use refusal::Refusal;
 
 // When a granted key was heard.
 #[derive(Clone, Copy)]
@@ -12,7 +13,7 @@ pub struct Moment {
 
 #[derive(Clone, Copy)]
 pub enum Step<'a> {
-    Heard(Record<'a>, Outcome),
+    Heard(Record<'a>, Result<Outcome, Refusal>),
     // At the moment of its key; the payload is in the start of the buffer.
     Out(Moment, Released),
 }
