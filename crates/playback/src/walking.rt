@@ -14,7 +14,6 @@ use crate::step::{Moment, Step};
 use crate::walk::Walk;
 use capture::Records;
 use cipher::{Block, Key};
-use node::Reading;
 use packet::MAX_PAYLOAD;
 use refusal::Refusal;
 use std::mem::replace;
@@ -67,7 +66,7 @@ impl<'a, B: Block> Walk<'a, B> {
     {
         let record = self.records.next()?;
         let stage = replace(&mut self.stage, Stage::Silent);
-        let (stage, outcome) = stage.hear(self.pair, Reading(record.time()), record.bytes);
+        let (stage, outcome) = stage.hear(self.pair, &record);
         let moment = Moment {
             seconds: record.seconds,
             micros: record.micros,

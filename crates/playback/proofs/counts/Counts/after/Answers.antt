@@ -1,5 +1,4 @@
 use Rattle.std.proofs.Common.{◌≤◌, take, Some, refl, ap, subst, rules}
-
 use Rattle.playback.proofs.Orders.{order_after, order_fits}
 use Rattle.playback.proofs.counts.Counts.after.Goals as goal
 

@@ -8,7 +8,7 @@ returns-in-Err g c = heard_unread _ _ _ _ _ _ c.in-Err.ensures.value
 
 pub returns-in-Silent : goal.returns-in-Silent
 returns-in-Silent g c =
-    heard_silent _ _ _ _ _ _ _ _ c.in-Ok.ensures.value (ap part_of c.in-Silent.is) c.ask-stage.ensures.part (c.ask-stage.ensures.outcome c.args.bytes.now)
+    heard_silent _ _ _ _ _ _ _ _ c.in-Ok.ensures.value (ap part_of c.in-Silent.is) c.ask-stage.ensures.part c.ask-stage.ensures.outcome
 
 pub returns-in-Asking : goal.returns-in-Asking
 returns-in-Asking g c =

@@ -1,5 +1,5 @@
 use Rattle.std.proofs.Common.{refl, ◌∙◌, subst, arith}
-use Rattle.capture.specs.Format.{record_said}
+use Rattle.capture.specs.Format.{record_said, time}
 use Rattle.capture.specs.Reading.{records}
 use Rattle.playback.specs.Stages.{Heard, outcome_said, part_of}
 use Rattle.playback.proofs.walk.Walk.hear.Goals as goal
@@ -14,8 +14,8 @@ returns-in_err-record g c = record {
 
 pub returns : goal.returns
 returns g c = record {
-  steps = λ buffer. hears_one g.B.Block.make _ _ _ _ _ c.requires _ _ (record_said c.in_ok-record.record) _ (outcome_said c.hear-stage.result.1) _ c.in_ok-record.ensures.taken.first c.time.ensures.value
-      (subst (λ s. Heard g.B.Block.make c.args.self.now.pair (part_of s) c.time.result c.in_ok-record.record.bytes.now (part_of c.hear-stage.result.0) (outcome_said c.hear-stage.result.1)) c.replace-stage.ensures.value c.hear-stage.ensures)
+  steps = λ buffer. hears_one g.B.Block.make _ _ _ _ _ c.requires _ _ (record_said c.in_ok-record.record) _ (outcome_said c.hear-stage.result.1) _ c.in_ok-record.ensures.taken.first refl
+      (subst (λ s. Heard g.B.Block.make c.args.self.now.pair (part_of s) (time (record_said c.in_ok-record.record)) c.in_ok-record.record.bytes.now (part_of c.hear-stage.result.0) (outcome_said c.hear-stage.result.1)) c.replace-stage.ensures.value c.hear-stage.ensures)
       c.releasing-self.ensures refl refl;
   quiet = λ buffer. refl;
 }
