@@ -28,13 +28,6 @@ module _ {X Y : Type 0} (f : X → Y) where
       ∙ sym (λ i. take-map f place (take n xs) i ++ drop-map f (suc place) (take n xs) i)
 
   -- the next place is looked at
-  pub one_on : (xs : List X) (i n : ℕ) (d : X) → i < n → n ≤ length xs → map f (drop i (take n xs)) ≡ f (get_or xs i d) ∷ map f (drop (i + 1) (take n xs))
-  one_on xs i n d below within =
-      ap (map f) (drop_more (take n xs) i d (simp length-take (omega arith))) ∙ ap (λ y. f y ∷ map f (drop (i + 1) (take n xs))) (get_or-take n xs i d below)
-
-  pub none_left : (xs : List X) (i n : ℕ) → n ≤ i → map f (drop i (take n xs)) ≡ []
-  none_left xs i n past = ap (map f) (drop_all i (take n xs) (simp length-take (omega arith)))
-
   pub one_past : (xs : List X) (i : ℕ) (d : X) → i < length xs → map f (take (i + 1) xs) ≡ map f (take i xs) ++ f (get_or xs i d) ∷ []
   one_past xs i d within = ap (map f) (take_more xs i d within) ∙ map-append f (take i xs) (get_or xs i d ∷ [])
 
@@ -43,7 +36,3 @@ module _ {X Y : Type 0} (f : X → Y) where
 
   pub most_first : (xs : List X) (i : ℕ) → length (map f (take i xs)) ≤ i
   most_first xs i = rw length-map (simp length-take (omega arith))
-
-  pub one_read : (xs : List X) (i n : ℕ) (d : X) (e : Y) → i < n → n ≤ length xs → get_or (map f (take n xs)) i e ≡ f (get_or xs i d)
-  one_read xs i n d e below within =
-      get_or-map f (take n xs) i d e (simp length-take (omega arith)) ∙ ap f (get_or-take n xs i d below)

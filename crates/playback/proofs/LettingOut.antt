@@ -1,5 +1,6 @@
 -- What a release of the code comes to.
-use Rattle.std.proofs.Common.{◌≡◌, ℕ, ◌≤◌, List, ◌∷◌, length, take, Some, None, Ok, Err, Option, Result, sym, ap, ◌∙◌, subst, arith, length-take}
+use Rattle.std.proofs.Common.{◌≡◌, ℕ, ◌≤◌, List, ◌∷◌, length, take, Some, None, Ok, Err, Option, Result, sym, refl, ap, ◌∙◌, subst, arith, length-take}
+use Rattle.std.specs.Result.{IsOk}
 use Rattle.refusal.specs.declared.Refusal.{Refusal}
 use Rattle.cipher.specs.Blocks.{Make}
 use Rattle.packet.specs.Writing.{filled}
@@ -28,8 +29,8 @@ module _ (cipher : Make) (r r' : Receiver) (before after : List ℕ) where
 
   -- the payload that is told is the whole front of that length, so that the buffer is as long
 
-  pub lets_out : (o : Option Released) (room : ℕ) → room ≡ 64 → length after ≡ 64 → ReleasedAs (Ok o) room → Lets o
-  lets_out o room e same h = go o (roomy (Ok o) room e h)
+  pub lets_out : (o : Option Released) (room : ℕ) → room ≡ 64 → ReleasedAs (Ok o) room → Lets o
+  lets_out o room e h = go o (roomy (Ok o) room e h)
     where
       go : (o : Option Released) → ReleasedAs (Ok o) 64 → Lets o
       go None h =
@@ -45,5 +46,6 @@ module _ (cipher : Make) (r r' : Receiver) (before after : List ℕ) where
             buffer = h.buffer ∙ ap (λ a. filled (written a) before) (sym h.says);
           }
 
-  pub never_refused : (f : Refusal) (room : ℕ) → room ≡ 64 → ReleasedAs (Err f) room → ⊥
-  never_refused f room e h = subst (Unfolds cipher r) (sym (roomy (Err f) room e h).says) (unfolds cipher r)
+  pub never_refused : (result : Result (Option Released) Refusal) (room : ℕ) → room ≡ 64 → ReleasedAs result room → IsOk result
+  never_refused (Ok o) room e h = refl
+  never_refused (Err f) room e h = absurd (subst (Unfolds cipher r) (sym (roomy (Err f) room e h).says) (unfolds cipher r))

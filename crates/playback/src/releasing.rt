@@ -19,10 +19,7 @@ fn let_out<B: Block>(
     ensures lets { LetsOut B.make (receiving (meaning receiver.old)) (receiving (meaning receiver.new)) (told_out result payload.new) }
     ensures buffer { payload.new ≡ filled (wrote (told_out result payload.new)) payload.old }
 {
-    match receiver.release(payload) {
-        Ok(released) => released,
-        Err(_) => None,
-    }
+    receiver.release(payload).unwrap()
 }
 
 impl<B: Block> Stage<B> {

@@ -1,15 +1,16 @@
-use Rattle.std.proofs.Common.{◌≡◌, length, rules}
+use Rattle.std.proofs.Common.{◌≡◌, length, Ok, subst, rules}
+use Rattle.node.specs.Receivers.{meaning}
 use Rattle.playback.proofs.releasing.let_out.Goals as goal
-use Rattle.playback.proofs.LettingOut.{lets_out, never_refused}
+use Rattle.playback.proofs.LettingOut.{ReleasedAs, lets_out, never_refused}
 
-pub returns-in-Ok : goal.returns-in-Ok
-returns-in-Ok g c =
+pub unwrap-requires : goal.unwrap-requires
+unwrap-requires g c =
     let long : length c.args.payload.now ≡ 64 = search rules in
-    let kept : length c.release.new.out ≡ 64 = search rules in
-    let all = lets_out g.B.Block.make _ _ _ _ c.in-Ok.released _ long kept (record { says = c.in-Ok.ensures.answer; leaves = c.release.ensures.after; buffer = c.release.ensures.buffer; long = c.in-Ok.ensures.length }) in
+    never_refused g.B.Block.make _ _ _ _ _ _ long (record { says = c.release.ensures.answer; leaves = c.release.ensures.after; buffer = c.release.ensures.buffer; long = c.release.ensures.length })
+
+pub returns : goal.returns
+returns g c =
+    let long : length c.args.payload.now ≡ 64 = search rules in
+    let released : ReleasedAs g.B.Block.make (meaning c.args.receiver.now) (meaning c.release.new.self) c.args.payload.now c.release.new.out c.release.result (length c.args.payload.now) = record { says = c.release.ensures.answer; leaves = c.release.ensures.after; buffer = c.release.ensures.buffer; long = c.release.ensures.length } in
+    let all = lets_out g.B.Block.make _ _ _ _ c.unwrap.result _ long (subst (λ x. ReleasedAs g.B.Block.make (meaning c.args.receiver.now) (meaning c.release.new.self) c.args.payload.now c.release.new.out x (length c.args.payload.now)) c.unwrap.ensures released) in
     record { lets = all.lets; buffer = all.buffer }
-
-pub returns-in-Err : goal.returns-in-Err
-returns-in-Err g c =
-    let long : length c.args.payload.now ≡ 64 = search rules in
-    absurd (never_refused g.B.Block.make _ _ _ _ _ _ long (record { says = c.in-Err.ensures.answer; leaves = c.release.ensures.after; buffer = c.release.ensures.buffer; long = c.in-Err.ensures.length }))
