@@ -1,5 +1,7 @@
 -- Calls of a base that stands for a base of the rules.
-use Rattle.std.proofs.Common.{◌≡◌, ℕ, ◌≤◌, List, Some, Ok, Err, Result, sym, refl, ap, ◌∙◌, subst}
+use Rattle.std.proofs.Common.{◌≡◌, ℕ, ◌≤◌, List, Some, Ok, Err, Result, sym, ap, ◌∙◌, subst}
+use Rattle.std.specs.Result.{IsErrAnd}
+use Rattle.std.proofs.lemmas.Result.{err_from_is_err_and}
 use Rattle.refusal.specs.declared.Refusal.{Refusal}
 use Rattle.cipher.specs.declared.block.Block as block
 use Rattle.cipher.specs.Blocks.{Make}
@@ -7,13 +9,7 @@ use Rattle.source.specs.declared.key_source.KeySource.{Ghosts}
 use Rattle.link.specs.Questions.{first_no, unless}
 use Rattle.link.specs.Base as rules
 use Rattle.base.specs.declared.state.Base.{Base}
-use Rattle.base.specs.Meaning.{Called, Means, Untouched, lent}
-
-pub untouched : {S : Type 0} (r : Result ℕ Refusal) (e : Refusal) (s : S) → r ≡ Err e → Untouched r s s
-untouched r e s is = let P : Result ℕ Refusal → Type 0 = λ x. Untouched x s s in subst P (sym is) refl
-
-pub done_with : {S : Type 0} (r : Result ℕ Refusal) (n : ℕ) (s s' : S) → r ≡ Ok n → Untouched r s s'
-done_with r n s s' is = let P : Result ℕ Refusal → Type 0 = λ x. Untouched x s s' in subst P (sym is) tt
+use Rattle.base.specs.Meaning.{Called, Means, lent}
 
 module _ {B M D : Type 0} {c : block.Ghosts B} (m : Ghosts M) (d : Ghosts D) (b : Base B M D c m d) (x : rules.Base) (means : Means m d b x) where
   -- the latest reading is not before the start
@@ -23,9 +19,11 @@ module _ {B M D : Type 0} {c : block.Ghosts B} (m : Ghosts M) (d : Ghosts D) (b 
       let latest : b.latest ≡ x.latest = ap (λ n. n.latest) means.same in
       rw (← start, ← latest) b.begun
 
-  pub refused_call : (cipher : Make) (errand : rules.Errand) (e : Refusal) (r : Result ℕ Refusal) (out : List ℕ) → first_no (rules.base_questions x errand) ≡ Some e → r ≡ Err e → Called cipher m d x errand r out out b
+  pub refused_call : (cipher : Make) (errand : rules.Errand) (e : Refusal) (r : Result ℕ Refusal) (out : List ℕ) → first_no (rules.base_questions x errand) ≡ Some e → IsErrAnd r (λ y. y ≡ e) → Called cipher m d x errand r out out b
   unfolding rules.reply rules.base_then
-  refused_call cipher errand e r out asks is =
+  refused_call cipher errand e r out asks exit =
+      let p = err_from_is_err_and r exit in
+      let is : r ≡ Err e = p.1 ∙ ap Err p.2 in
       let P : rules.Base → Type 0 = λ y. Means m d b y in
       record {
         answer = is ∙ ap (λ o. (lent (unless o Err (Ok (rules.written cipher x errand))) out).0) (sym asks);

@@ -1,47 +1,26 @@
-use Rattle.std.proofs.Common.{◌≡◌, length, Err, refl, ap, ◌∙◌}
-use Rattle.std.proofs.lemmas.Result.{err_from_is_err_and}
+use Rattle.std.proofs.Common.{length, refl}
 use Rattle.packet.specs.Kinds.{request_said}
 use Rattle.link.specs.Base.{to_answer}
-use Rattle.base.proofs.Calls.{done_with, refused_call, untouched}
+use Rattle.base.proofs.Calls.{refused_call}
 use Rattle.base.proofs.Welcomes.{answered_call, unanswered, unread}
 use Rattle.base.proofs.state.Base.answer.Goals as goal
 
-pub returns-in_err-request : goal.returns-in_err-request
-returns-in_err-request g c =
-    let b = c.args.self.now in
+pub returns-in_err-request-clause-rules : goal.returns-in_err-request-clause-rules
+returns-in_err-request-clause-rules g c = λ x means.
     let out = c.args.out.now in
     let bytes = c.args.request.now in
-    let e = c.in_err-request.field-0.0 in
-    let p = err_from_is_err_and c.from_residual.result c.from_residual.ensures.1 in
-    let is : c.from_residual.result ≡ Err e = p.1 ∙ ap Err p.2 in
-    record {
-      rules = λ x means.
-          refused_call g.M.KeySource g.D.KeySource b x means g.B.Block.make (to_answer c.args.reading c.args.pair bytes (length out)) e c.from_residual.result out (unread x c.args.reading c.args.pair bytes (length out) e c.in_err-request.ensures) is;
-      refused = (untouched c.from_residual.result e b is, untouched c.from_residual.result e out is);
-    }
+    let asks = unread x c.args.reading c.args.pair bytes (length out) _ c.in_err-request.ensures in
+    refused_call g.M.KeySource g.D.KeySource c.args.self.now x means g.B.Block.make (to_answer c.args.reading c.args.pair bytes (length out)) _ c.from_residual.result out asks c.from_residual.ensures.1
 
-pub returns-in_err-may_answer : goal.returns-in_err-may_answer
-returns-in_err-may_answer g c =
+pub returns-in_err-may_answer-clause-rules : goal.returns-in_err-may_answer-clause-rules
+returns-in_err-may_answer-clause-rules g c = λ x means.
     let b = c.args.self.now in
     let out = c.args.out.now in
     let bytes = c.args.request.now in
-    let r = c.from_residual-in_err-may_answer.result in
-    let e = c.in_err-may_answer.field-0.0 in
-    let p = err_from_is_err_and r c.from_residual-in_err-may_answer.ensures.1 in
-    let is : r ≡ Err e = p.1 ∙ ap Err p.2 in
-    record {
-      rules = λ x means.
-          refused_call g.M.KeySource g.D.KeySource b x means g.B.Block.make (to_answer c.args.reading c.args.pair bytes (length out)) e r out (unanswered g.B.Block.make g.M.KeySource g.D.KeySource b x means c.args.reading c.args.pair bytes (length out) (request_said c.in_ok-request.request) e c.in_ok-request.ensures c.in_err-may_answer.ensures) is;
-      refused = (untouched r e b is, untouched r e out is);
-    }
+    let exit = c.from_residual-in_err-may_answer in
+    let asks = unanswered g.B.Block.make g.M.KeySource g.D.KeySource b x means c.args.reading c.args.pair bytes (length out) (request_said c.in_ok-request.request) _ c.in_ok-request.ensures c.in_err-may_answer.ensures in
+    refused_call g.M.KeySource g.D.KeySource b x means g.B.Block.make (to_answer c.args.reading c.args.pair bytes (length out)) _ exit.result out asks exit.ensures.1
 
-pub returns : goal.returns
-returns g c =
-    let b = c.args.self.now in
-    let out = c.args.out.now in
-    let bytes = c.args.request.now in
-    record {
-      rules = λ x means.
-          answered_call g.B.Block.make g.M.KeySource g.D.KeySource b x means c.args.reading c.args.pair bytes out c.write_answer.new.out (request_said c.in_ok-request.request) c.write_answer.result _ c.in_ok-request.ensures c.in_ok-may_answer.ensures refl refl refl refl refl c.write_answer.ensures.value c.write_answer.ensures.after;
-      refused = (done_with c.write_answer.result 48 b _ c.write_answer.ensures.value, done_with c.write_answer.result 48 out _ c.write_answer.ensures.value);
-    }
+pub returns-clause-rules : goal.returns-clause-rules
+returns-clause-rules g c = λ x means.
+    answered_call g.B.Block.make g.M.KeySource g.D.KeySource c.args.self.now x means c.args.reading c.args.pair c.args.request.now c.args.out.now c.write_answer.new.out (request_said c.in_ok-request.request) c.write_answer.result _ c.in_ok-request.ensures c.in_ok-may_answer.ensures refl refl refl refl refl c.write_answer.ensures.value c.write_answer.ensures.after
