@@ -14,3 +14,4 @@ pub mod Theorem
 pub mod Sampled
 pub mod ReadsBack
 pub mod Finishes
+pub mod Exits

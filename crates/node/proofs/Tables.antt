@@ -2,7 +2,7 @@
 use Rattle.std.proofs.Common.{◌≡◌, ℕ, suc, ◌+◌, ◌-◌, ◌<◌, ◌≤◌, List, [], ◌∷◌, ◌++◌, map, length, get_or, take, drop, set, sym, ap, ◌∙◌, append_assoc, add-one, arith}
 use borrow.Rule.Slice.PartMut.{put_mid, mid_of, post_of}
 use Rattle.std.specs.List.{remove}
-use Rattle.std.proofs.lemmas.List.{length-append, length-drop, length-take, take_more_set, take-set, take_at, take-take, take_more, drop-drop, drop_more, drop_all, get_or-take, get_or-map, length-map, take-map, drop-map, map-append}
+use Rattle.std.proofs.lemmas.List.{length-append, length-drop, length-take, take_more_set, take-set, take_at, take-take, take_more, drop-drop, length-map, take-map, drop-map, map-append}
 use Rattle.std.proofs.lemmas.Slice.{between_is}
 
 module _ {X Y : Type 0} (f : X → Y) where

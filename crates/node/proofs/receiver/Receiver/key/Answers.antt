@@ -1,10 +1,10 @@
 use Rattle.std.proofs.Common.{Some, ap, ◌∙◌}
-use Rattle.std.proofs.lemmas.Result.{err_from_is_err_and}
 use Rattle.packet.specs.Kinds.{disclosure_said}
-use Rattle.link.specs.Receiver.{refused, steps, to_key}
+use Rattle.link.specs.Receiver.{steps, to_key}
+use Rattle.link.proofs.Exits.{passed_on}
 use Rattle.node.specs.Answers.{key_says}
 use Rattle.node.specs.Receivers.{meaning}
-use Rattle.node.proofs.Deeds.{sound_then, key_unread, key_read, key_done, asked_no, asked_yes, refused_answer, refused_then}
+use Rattle.node.proofs.Deeds.{key_unread, key_read, key_done, asked_no, asked_yes, refused_answer, refused_then}
 use Rattle.node.proofs.receiver.Receiver.key.Goals as goal
 
 pub returns-in_err-disclosed : goal.returns-in_err-disclosed
@@ -12,10 +12,9 @@ returns-in_err-disclosed g c =
     let cipher = g.B.Block.make in
     let r = meaning c.args.self.now in
     let call = to_key c.args.at.0 c.args.bytes.now in
-    let exit = err_from_is_err_and c.from_residual.result c.from_residual.ensures.1 in
     let does = key_unread cipher r c.args.at.0 c.args.bytes.now _ c.in_err-disclosed.ensures in
     record {
-      answer = ap key_says exit.1 ∙ ap refused exit.2 ∙ refused_answer cipher r call _ does;
+      answer = passed_on key_says _ _ c.from_residual.ensures.1 ∙ refused_answer cipher r call _ does;
       after = refused_then cipher r call _ does;
     }
 
@@ -24,20 +23,11 @@ returns-in_err-may_adopt g c =
     let cipher = g.B.Block.make in
     let r = meaning c.args.self.now in
     let call = to_key c.args.at.0 c.args.bytes.now in
-    let exit = err_from_is_err_and c.from_residual-in_err-may_adopt.result c.from_residual-in_err-may_adopt.ensures.1 in
     let does = key_read cipher r c.args.at.0 c.args.bytes.now (disclosure_said c.in_ok-disclosed.disclosed) c.from_bytes-key.result (Some _) c.in_ok-disclosed.ensures c.from_bytes-key.ensures.value (asked_no _ _ c.in_err-may_adopt.ensures) in
     record {
-      answer = ap key_says exit.1 ∙ ap refused exit.2 ∙ refused_answer cipher r call _ does;
+      answer = passed_on key_says _ _ c.from_residual-in_err-may_adopt.ensures.1 ∙ refused_answer cipher r call _ does;
       after = refused_then cipher r call _ does;
     }
-
-pub invariant_of-self : goal.invariant_of-self
-invariant_of-self g c =
-    let cipher = g.B.Block.make in
-    let self = c.args.self.now in
-    let done = key_done cipher (meaning self) c.args.at.0 c.args.bytes.now (disclosure_said c.in_ok-disclosed.disclosed) c.from_bytes-key.result c.in_ok-disclosed.ensures c.from_bytes-key.ensures.value (asked_yes _ _ c.in_ok-may_adopt.ensures) in
-    let sound = sound_then cipher (meaning self) (to_key c.args.at.0 c.args.bytes.now) _ done.1 (record { apart = self.apart; due = self.due }) in
-    record { apart = self.apart; due = sound.due }
 
 pub returns : goal.returns
 returns g c =

@@ -3,15 +3,13 @@ use Rattle.packet.specs.Kinds.{answer_said}
 use Rattle.node.specs.Clocks.{clock_of}
 use Rattle.node.specs.Nodes.{node_of}
 use Rattle.node.specs.Places.{held}
-use Rattle.node.proofs.Joining.{welcomed_ok, welcomed_err, refused_finish, requested_below, schedule_told, finish_gives, ends_well, joined_sound}
+use Rattle.node.proofs.Joining.{welcomed_ok, welcomed_err, refused_finish, schedule_told, finish_gives, ends_well, joined_sound}
 use Rattle.node.proofs.requesting.Requesting.finish.Goals as goal
 
-pub clock_by-requires : goal.clock_by-requires
-clock_by-requires g c =
-    let cipher = g.B.Block.make in
-    let node = node_of c.args.self in
+pub clock_by-requires-clause-schedule : goal.clock_by-requires-clause-schedule
+clock_by-requires-clause-schedule g c =
     let granted = welcomed_ok _ _ _ c.in-Ok.ensures in
-    record { requested = requested_below cipher node c.args.at.0 c.args.bytes.now _ granted.0 granted.1; schedule = schedule_told cipher node c.args.at.0 c.args.bytes.now _ granted.0 granted.1 }
+    schedule_told g.B.Block.make (node_of c.args.self) c.args.at.0 c.args.bytes.now _ granted.0 granted.1
 
 pub invariant_of-result : goal.invariant_of-result
 invariant_of-result g c =

@@ -1,5 +1,5 @@
-use Rattle.std.proofs.Common.{Err, sym, ap, ◌∙◌}
-use Rattle.std.proofs.lemmas.Result.{err_from_is_err_and}
+use Rattle.std.proofs.Common.{sym, ap, ◌∙◌}
+use Rattle.link.proofs.Exits.{passed_on}
 use Rattle.packet.specs.Reading.{told}
 use Rattle.node.specs.Nodes.{asking, sent}
 use Rattle.node.proofs.Requests.{out_of_order, out_of_limits, wrote}
@@ -18,9 +18,8 @@ returns-then-not-is_drift c =
 pub returns-in_err-length : goal.returns-in_err-length
 returns-in_err-length c =
     let asked = wrote (asking c.args.pair c.args.nonce c.args.at c.args.drift) c.args.out.now c.write.result c.write.new.out (sym c.in_order.ensures ∙ c.if-not-in_order.false) (sym c.is_drift.ensures ∙ c.if-not-is_drift.false) c.write.ensures.value c.write.ensures.after in
-    let exit = err_from_is_err_and c.from_residual.result c.from_residual.ensures.1 in
     record {
-      value = ap (told sent) (exit.1 ∙ ap Err exit.2) ∙ ap (told (λ n. (asking c.args.pair c.args.nonce c.args.at c.args.drift, n))) (sym c.in_err-length.was) ∙ asked.says;
+      value = passed_on (told sent) _ _ c.from_residual.ensures.1 ∙ ap (told (λ n. (asking c.args.pair c.args.nonce c.args.at c.args.drift, n))) (sym c.in_err-length.was) ∙ asked.says;
       after = asked.buffer;
     }
 

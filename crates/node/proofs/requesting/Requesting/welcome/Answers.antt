@@ -1,5 +1,5 @@
-use Rattle.std.proofs.Common.{Some, None, Ok, Err, sym, ap, ◌∙◌}
-use Rattle.std.proofs.lemmas.Result.{err_from_is_err_and}
+use Rattle.std.proofs.Common.{Some, None, Ok, sym, ap, ◌∙◌}
+use Rattle.link.proofs.Exits.{passed_on}
 use Rattle.packet.specs.Kinds.{answer_said}
 use Rattle.packet.specs.Reading.{answer_of, told}
 use Rattle.node.specs.Nodes.{node_of}
@@ -10,9 +10,8 @@ use Rattle.node.proofs.requesting.Requesting.welcome.Goals as goal
 pub returns-in_err-may_join : goal.returns-in_err-may_join
 returns-in_err-may_join g c =
     let bytes = c.args.bytes.now in
-    let exit = err_from_is_err_and c.from_residual-in_err-may_join.result c.from_residual-in_err-may_join.ensures.1 in
     let asks = join_asked g.B.Block.make (node_of c.args.self.now) c.args.at.0 bytes (answer_said c.in_ok-answer.answer) (Some _) c.in_ok-answer.ensures (asked_no _ _ c.in_err-may_join.ensures) in
-    ap (told answer_said) (exit.1 ∙ ap Err exit.2) ∙ ap (λ o. welcomed o (answer_of bytes)) (sym asks)
+    passed_on (told answer_said) _ _ c.from_residual-in_err-may_join.ensures.1 ∙ ap (λ o. welcomed o (answer_of bytes)) (sym asks)
 
 pub returns : goal.returns
 returns g c =

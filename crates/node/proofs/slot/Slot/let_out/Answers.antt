@@ -7,8 +7,8 @@ use Rattle.node.proofs.Outs.{let_out}
 use Rattle.node.proofs.slot.Slot.let_out.Goals as goal
 use Rattle.node.proofs.slot.Slot.let_out.Goals.{then-verdict, else-verdict}
 
-pub returns : goal.returns
-returns c =
+pub returns-clause-buffer : goal.returns-clause-buffer
+returns-clause-buffer c =
     let self = c.args.self.now in
     let n = c.if-verdict.length in
     let part = written (out_of (slot_said self) c.args.verdict) in
@@ -21,5 +21,4 @@ returns c =
       | else-verdict w ↦ omega (arith, w.length-is)
     ] in
     let long : n ≡ length part = sym (simp length-take (omega arith)) ∙ ap length front in
-    let out = let_out (slot_said self) c.args.verdict n c.args.out.now c.copy_from_slice.new.self long (c.copy_from_slice.ensures.after ∙ front) in
-    record { says = out.says; length = out.long; buffer = out.buffer }
+    let_out (slot_said self) c.args.verdict n c.args.out.now c.copy_from_slice.new.self long (c.copy_from_slice.ensures.after ∙ front)
