@@ -14,6 +14,7 @@ pub filled_whole : (bytes out : List ℕ) → length bytes ≡ length out → fi
 unfolding filled
 filled_whole bytes out same = grind (arith, common_steps)
 
+-- the first part, and one behind what fills the start so far
 pub part_first : (part out : List ℕ) → with_part 0 part out ≡ filled part out
 unfolding with_part filled
 part_first part out = refl

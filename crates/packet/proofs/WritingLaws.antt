@@ -13,6 +13,7 @@ use Rattle.packet.specs.Writing.{filled, Writes}
 use Rattle.packet.proofs.LayoutLaws.{length_packet_bytes}
 use Rattle.packet.proofs.ReadBack.{read_back, Of, read_made}
 
+-- a packet that fits is written as its bytes
 fits_writes : (p : Packet) → Fits p → Writes p (packet_bytes p)
 fits_writes (a_request p) f out room = grind (arith, nat_tests, length_packet_bytes (a_request p) f)
 fits_writes (an_answer p) f out room = grind (arith, nat_tests, length_packet_bytes (an_answer p) f)
@@ -43,4 +44,5 @@ data_back p = written_back (a_data p)
 pub key_back : (p : Disclosure) (n : ℕ) (out : List ℕ) → n ≡ 19 → Fits (a_key p) → read_packet (take n (filled (disclosure_bytes p) out)) ≡ Ok (a_key p)
 key_back p = written_back (a_key p)
 
+-- the same of each kind, which is how `write` meets it
 pub ruleset back = (request_back, answer_back, data_back, key_back)
