@@ -3,5 +3,5 @@ pub mod BufferLaws
 pub mod ReadingLaws
 pub mod LayoutLaws
 pub mod ReadBack
-pub mod WriteBack
 pub mod WritingLaws
+pub mod FieldLaws

@@ -1,52 +1,48 @@
 -- What writing answers of a packet whose fields have their widths.
-use Rattle.std.proofs.Common.{◌≡◌, ℕ, ◌≤◌, true, leb, List, length, take, IfOk, Ok, Err, Result, sym, refl, ap, ◌∙◌, subst, arith}
-use Rattle.std.specs.List.{AllByRecursion}
+use Rattle.std.proofs.Common.{◌≡◌, ℕ, ◌+◌, List, length, take, get_or, IfOk, Ok, Err, Result, sym, ap, ◌∙◌, subst, arith, Fits as FitsWidth, w8}
+use Rattle.std.proofs.ByRecursion.{All-from_get_or}
+use Rattle.std.proofs.lemmas.Bool.Decides.{nat_tests}
 use Rattle.std.proofs.lemmas.List.{take_at}
-use Rattle.std.proofs.lemmas.Bool.{le-leb, cond-true, cond_both}
 use Rattle.refusal.specs.declared.Refusal.{Refusal}
 use Rattle.cipher.proofs.ByteLaws.{Byte}
-use Rattle.packet.specs.Kinds.{Packet, a_request, an_answer, a_data, a_key, Fits}
-use Rattle.packet.specs.Layouts.{packet_bytes, packet_length}
+use Rattle.packet.specs.declared.kinds
+use Rattle.packet.specs.Kinds.{Request, Answer, Data, Disclosure, Packet, a_request, an_answer, a_data, a_key, Fits, said}
+use Rattle.packet.specs.Layouts.{request_bytes, answer_bytes, data_bytes, disclosure_bytes, packet_bytes, packet_length}
 use Rattle.packet.specs.Reading.{told, read_packet}
-use Rattle.packet.specs.Writing.{filled, short_enough, write_packet, Writes}
+use Rattle.packet.specs.Writing.{filled, Writes}
 use Rattle.packet.proofs.LayoutLaws.{length_packet_bytes}
-use Rattle.packet.proofs.ReadBack.{read_back}
-use Rattle.packet.proofs.WriteBack.{Of, read_made}
+use Rattle.packet.proofs.ReadBack.{read_back, Of, read_made}
 
-fits_short : (p : Packet) → Fits p → short_enough p ≡ true
-fits_short (a_request p) f = refl
-fits_short (an_answer p) f = refl
-fits_short (a_data p) f = le-leb _ _ f.1
-fits_short (a_key p) f = refl
-
-pub fits_written : (p : Packet) → Fits p → (out : List ℕ) → packet_length p ≤ length out → write_packet p out ≡ (Ok (packet_length p), filled (packet_bytes p) out)
-fits_written p f out room = cond-true _ _ _ (fits_short p f) ∙ cond-true _ _ _ (le-leb _ _ room)
-
--- a packet of these bytes is written as them
-pub of_writes : (bytes : List ℕ) (p : Packet) → Of bytes p → Writes p bytes
-of_writes bytes p h out room =
-    let long : packet_length p ≡ length bytes = sym (length_packet_bytes p h.0) ∙ ap length h.1 in
-    fits_written p h.0 out (omega arith) ∙ (λ i. (Ok (long i), filled (h.1 i) out))
+-- a packet that fits is written as its bytes
+fits_writes : (p : Packet) → Fits p → Writes p (packet_bytes p)
+fits_writes (a_request p) f out room = grind (arith, nat_tests, length_packet_bytes (a_request p) f)
+fits_writes (an_answer p) f out room = grind (arith, nat_tests, length_packet_bytes (an_answer p) f)
+fits_writes (a_data p) f out room = grind (arith, nat_tests, length_packet_bytes (a_data p) f)
+fits_writes (a_key p) f out room = grind (arith, nat_tests, length_packet_bytes (a_key p) f)
 
 -- whatever was read is written as the bytes it was read from
-pub read_writes : {P : Type 0} (say : P → Packet) (r : Result P Refusal) (bytes : List ℕ) → AllByRecursion Byte bytes → told say r ≡ read_packet bytes → IfOk r (λ p. Writes (say p) bytes)
-read_writes say (Ok p) bytes all e = of_writes bytes (say p) (subst (λ r. IfOk r (Of bytes)) (sym e) (read_made bytes all))
-read_writes say (Err refusal) bytes all e = tt
+pub read_writes : (r : Result kinds.Packet.Packet Refusal) (bytes : List ℕ) → ((i : ℕ) → FitsWidth w8 (get_or bytes i 0)) → told said r ≡ read_packet bytes → IfOk r (λ p. Writes (said p) bytes)
+read_writes (Ok p) bytes all e =
+    let made : Of bytes (said p) = subst (λ r. IfOk r (Of bytes)) (sym e) (read_made bytes (All-from_get_or Byte bytes 0 (λ i below. (all i).fits))) in
+    subst (Writes (said p)) made.1 (fits_writes (said p) made.0)
+read_writes (Err refusal) bytes all e = tt
 
 -- what was written reads back
-abbrev Back : Packet → Result ℕ Refusal × List ℕ → Type 0
-Back p w = IfOk w.0 (λ n. read_packet (take n w.1) ≡ Ok p)
-
-written_back : (p : Packet) (out : List ℕ) → IfOk (write_packet p out).0 (λ _. Fits p) → Back p (write_packet p out)
+written_back : (p : Packet) (n : ℕ) (out : List ℕ) → n ≡ packet_length p → Fits p → read_packet (take n (filled (packet_bytes p) out)) ≡ Ok p
 unfolding filled
-written_back p out =
-    let Good : Result ℕ Refusal × List ℕ → Type 0 = λ w. IfOk w.0 (λ _. Fits p) → Back p w in
-    let front : Fits p → take (packet_length p) (filled (packet_bytes p) out) ≡ packet_bytes p = λ f. take_at (packet_bytes p) _ _ (length_packet_bytes p f) in
-    cond_both (short_enough p) _ _ Good
-    (λ _. cond_both (leb (packet_length p) (length out)) _ _ Good (λ _. λ f. ap read_packet (front f) ∙ read_back p f) (λ _. λ _. tt))
-    (λ _. λ _. tt)
+written_back p n out long f = ap read_packet (take_at (packet_bytes p) _ n (length_packet_bytes p f ∙ sym long)) ∙ read_back p f
 
-pub write_reads : (p : Packet) (out after : List ℕ) (r : Result ℕ Refusal) → r ≡ (write_packet p out).0 → after ≡ (write_packet p out).1 → IfOk r (λ _. Fits p) → IfOk r (λ n. read_packet (take n after) ≡ Ok p)
-write_reads p out after r value left fits =
-    let both : (r, after) ≡ write_packet p out = λ i. (value i, left i) in
-    subst (Back p) (sym both) (written_back p out (subst (λ x. IfOk x (λ _. Fits p)) value fits))
+pub request_back : (p : Request) (n : ℕ) (out : List ℕ) → n ≡ 9 → Fits (a_request p) → read_packet (take n (filled (request_bytes p) out)) ≡ Ok (a_request p)
+request_back p = written_back (a_request p)
+
+pub answer_back : (p : Answer) (n : ℕ) (out : List ℕ) → n ≡ 48 → Fits (an_answer p) → read_packet (take n (filled (answer_bytes p) out)) ≡ Ok (an_answer p)
+answer_back p = written_back (an_answer p)
+
+pub data_back : (p : Data) (n : ℕ) (out : List ℕ) → n ≡ 12 + length p.payload → Fits (a_data p) → read_packet (take n (filled (data_bytes p) out)) ≡ Ok (a_data p)
+data_back p = written_back (a_data p)
+
+pub key_back : (p : Disclosure) (n : ℕ) (out : List ℕ) → n ≡ 19 → Fits (a_key p) → read_packet (take n (filled (disclosure_bytes p) out)) ≡ Ok (a_key p)
+key_back p = written_back (a_key p)
+
+-- the same of each kind, which is how `write` meets it
+pub ruleset back = (request_back, answer_back, data_back, key_back)

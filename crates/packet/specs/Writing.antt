@@ -1,5 +1,5 @@
 -- What writing a packet into a buffer answers, and what the buffer holds then.
-use Rattle.std.specs.Prelude.{◌≡◌, ℕ, ◌+◌, ◌≤◌, Bool, true, cond, List, ◌++◌, length, drop, Ok, Err, Result, nat_le}
+use Rattle.std.specs.Prelude.{◌≡◌, ℕ, ◌+◌, ◌≤◌, Bool, true, cond, List, ◌++◌, length, take, drop, Ok, Err, Result, nat_le}
 use Rattle.refusal.specs.declared.Refusal.{Refusal}
 use Rattle.refusal.specs.declared.Refusal.TheVariants.{BufferTooShort, TooLong}
 use Rattle.packet.specs.Kinds.{Data, Packet, a_request, an_answer, a_data, a_key}
@@ -8,6 +8,10 @@ use Rattle.packet.specs.Layouts.{data_covered, packet_bytes, packet_length}
 -- a buffer whose start was filled
 unfoldable pub filled : List ℕ → List ℕ → List ℕ
 filled bytes out = bytes ++ drop (length bytes) out
+
+-- a buffer with a part put at an offset
+unfoldable pub with_part : ℕ → List ℕ → List ℕ → List ℕ
+with_part at part out = take at out ++ (part ++ drop (length part) (drop at out))
 
 -- the payload has at most 64 bytes
 abbrev pub short_enough : Packet → Bool

@@ -1,5 +1,6 @@
 // What each kind of packet says. Byte strings are borrowed: from the bytes received, or from whoever writes.
 
+// The first byte of each kind. Constants stand in slice patterns, where the variants of an enum of kinds could not.
 pub(crate) const REQUEST: u8 = 1;
 
 pub(crate) const ANSWER: u8 = 2;
@@ -12,14 +13,14 @@ pub(crate) const KEY: u8 = 4;
 pub const MAX_PAYLOAD: usize = 64;
 
 // A node asks to join.
-#[derive(Clone, Copy, PartialEq, Eq, Debug)]
+#[derive(Clone, Copy, Debug, PartialEq, Eq)]
 pub struct Request<'a> {
     pub nonce: &'a [u8; 8],
 }
 
 // A base answers with its time, the last key disclosed, that key's interval and when it began, how long an interval
 // lasts, and the disclosure delay.
-#[derive(Clone, Copy, PartialEq, Eq, Debug)]
+#[derive(Clone, Copy, Debug, PartialEq, Eq)]
 pub struct Answer<'a> {
     pub time: u64,
     pub key: &'a [u8; 16],
@@ -31,7 +32,7 @@ pub struct Answer<'a> {
 }
 
 // An order of a base, with its running number in the interval.
-#[derive(Clone, Copy, PartialEq, Eq, Debug)]
+#[derive(Clone, Copy, Debug, PartialEq, Eq)]
 pub struct Data<'a> {
     pub interval: u16,
     pub number: u8,
@@ -40,13 +41,13 @@ pub struct Data<'a> {
 }
 
 // A base discloses the key of an interval.
-#[derive(Clone, Copy, PartialEq, Eq, Debug)]
+#[derive(Clone, Copy, Debug, PartialEq, Eq)]
 pub struct Disclosure<'a> {
     pub interval: u16,
     pub key: &'a [u8; 16],
 }
 
-#[derive(Clone, Copy, PartialEq, Eq, Debug)]
+#[derive(Clone, Copy, Debug, PartialEq, Eq)]
 pub enum Packet<'a> {
     Request(Request<'a>),
     Answer(Answer<'a>),

@@ -1,73 +1,24 @@
 // Reading asks for the kind, then for the length, and takes any fields.
+#![tactic(auto, using(crate::proofs::NumberLaws::numbers_read))]
+
 ghost use Rattle.std.specs.Prelude.{◌≡◌, IfOk};
 ghost use Rattle.packet.specs.Kinds.{request_said, answer_said, data_said, disclosure_said, said};
-ghost use Rattle.packet.specs.Reading.{told, request_long, answer_long, data_long, disclosure_long, read_request, read_answer, read_data, read_key, read_packet};
+ghost use Rattle.packet.specs.Reading.{told, read_request, read_answer, read_data, read_key, read_packet};
 ghost use Rattle.packet.specs.Writing.{Writes};
 
-use crate::fields::{byte, eight_bytes, four_bytes, part_at, two_bytes};
+use crate::fields::part_at;
 use crate::kinds::{ANSWER, Answer, DATA, Data, Disclosure, KEY, Packet, REQUEST, Request};
 use refusal::Refusal;
 
-fn request_fields(bytes: &[u8]) -> Result<Request<'_>, Refusal>
-    ensures { told request_said result ≡ request_long bytes.now }
-{
-    match bytes.len() {
-        9 => Ok(Request {
-            nonce: part_at(bytes, 1),
-        }),
-        _ => Err(Refusal::WrongLength),
-    }
-}
-
-fn answer_fields(bytes: &[u8]) -> Result<Answer<'_>, Refusal>
-    ensures { told answer_said result ≡ answer_long bytes.now }
-{
-    match bytes.len() {
-        48 => Ok(Answer {
-            time: eight_bytes(bytes, 1),
-            key: part_at(bytes, 9),
-            interval: two_bytes(bytes, 25),
-            start: eight_bytes(bytes, 27),
-            duration: four_bytes(bytes, 35),
-            delay: byte(bytes, 39),
-            tag: part_at(bytes, 40),
-        }),
-        _ => Err(Refusal::WrongLength),
-    }
-}
-
-fn data_fields(bytes: &[u8]) -> Result<Data<'_>, Refusal>
-    ensures { told data_said result ≡ data_long bytes.now }
-{
-    match bytes.len() {
-        12..=76 => Ok(Data {
-            interval: two_bytes(bytes, 1),
-            number: byte(bytes, 3),
-            payload: &bytes[4..bytes.len() - 8],
-            tag: part_at(bytes, bytes.len() - 8),
-        }),
-        _ => Err(Refusal::WrongLength),
-    }
-}
-
-fn key_fields(bytes: &[u8]) -> Result<Disclosure<'_>, Refusal>
-    ensures { told disclosure_said result ≡ disclosure_long bytes.now }
-{
-    match bytes.len() {
-        19 => Ok(Disclosure {
-            interval: two_bytes(bytes, 1),
-            key: part_at(bytes, 3),
-        }),
-        _ => Err(Refusal::WrongLength),
-    }
-}
-
-// Each reader of one kind refuses another kind whatever its length.
+// Each reader of one kind refuses another kind whatever its length. A pattern takes no parameter, so each has its own.
 pub fn read_request(bytes: &[u8]) -> Result<Request<'_>, Refusal>
     ensures { told request_said result ≡ read_request bytes.now }
 {
     match bytes {
-        [REQUEST, ..] => request_fields(bytes),
+        [REQUEST, ..] if bytes.len() == 9 => Ok(Request {
+            nonce: part_at(bytes, 1),
+        }),
+        [REQUEST, ..] => Err(Refusal::WrongLength),
         _ => Err(Refusal::NotThisKind),
     }
 }
@@ -76,7 +27,16 @@ pub fn read_answer(bytes: &[u8]) -> Result<Answer<'_>, Refusal>
     ensures { told answer_said result ≡ read_answer bytes.now }
 {
     match bytes {
-        [ANSWER, ..] => answer_fields(bytes),
+        [ANSWER, ..] if bytes.len() == 48 => Ok(Answer {
+            time: u64::from_be_bytes(*part_at(bytes, 1)),
+            key: part_at(bytes, 9),
+            interval: u16::from_be_bytes(*part_at(bytes, 25)),
+            start: u64::from_be_bytes(*part_at(bytes, 27)),
+            duration: u32::from_be_bytes(*part_at(bytes, 35)),
+            delay: bytes[39],
+            tag: part_at(bytes, 40),
+        }),
+        [ANSWER, ..] => Err(Refusal::WrongLength),
         _ => Err(Refusal::NotThisKind),
     }
 }
@@ -85,7 +45,13 @@ pub fn read_data(bytes: &[u8]) -> Result<Data<'_>, Refusal>
     ensures { told data_said result ≡ read_data bytes.now }
 {
     match bytes {
-        [DATA, ..] => data_fields(bytes),
+        [DATA, ..] if matches!(bytes.len(), 12..=76) => Ok(Data {
+            interval: u16::from_be_bytes(*part_at(bytes, 1)),
+            number: bytes[3],
+            payload: &bytes[4..bytes.len() - 8],
+            tag: part_at(bytes, bytes.len() - 8),
+        }),
+        [DATA, ..] => Err(Refusal::WrongLength),
         _ => Err(Refusal::NotThisKind),
     }
 }
@@ -94,19 +60,11 @@ pub fn read_key(bytes: &[u8]) -> Result<Disclosure<'_>, Refusal>
     ensures { told disclosure_said result ≡ read_key bytes.now }
 {
     match bytes {
-        [KEY, ..] => key_fields(bytes),
-        _ => Err(Refusal::NotThisKind),
-    }
-}
-
-fn any_kind(bytes: &[u8]) -> Result<Packet<'_>, Refusal>
-    ensures { told said result ≡ read_packet bytes.now }
-{
-    match bytes {
-        [REQUEST, ..] => Ok(Packet::Request(request_fields(bytes)?)),
-        [ANSWER, ..] => Ok(Packet::Answer(answer_fields(bytes)?)),
-        [DATA, ..] => Ok(Packet::Data(data_fields(bytes)?)),
-        [KEY, ..] => Ok(Packet::Key(key_fields(bytes)?)),
+        [KEY, ..] if bytes.len() == 19 => Ok(Disclosure {
+            interval: u16::from_be_bytes(*part_at(bytes, 1)),
+            key: part_at(bytes, 3),
+        }),
+        [KEY, ..] => Err(Refusal::WrongLength),
         _ => Err(Refusal::NotThisKind),
     }
 }
@@ -116,5 +74,11 @@ pub fn read(bytes: &[u8]) -> Result<Packet<'_>, Refusal>
     ensures value { told said result ≡ read_packet bytes.now }
     ensures back { IfOk result (λ p. Writes (said p) bytes.now) }
 {
-    any_kind(bytes)
+    match bytes {
+        [REQUEST, ..] => read_request(bytes).map(Packet::Request),
+        [ANSWER, ..] => read_answer(bytes).map(Packet::Answer),
+        [DATA, ..] => read_data(bytes).map(Packet::Data),
+        [KEY, ..] => read_key(bytes).map(Packet::Key),
+        _ => Err(Refusal::NotThisKind),
+    }
 }

@@ -1,7 +1,0 @@
-use Rattle.std.proofs.Common.{ap, ◌∙◌}
-use Rattle.cipher.specs.Bytes.{from_be}
-use Rattle.packet.proofs.NumberLaws.{eight_bytes_read}
-use Rattle.packet.proofs.fields.eight_bytes.Goals as goal
-
-pub returns : goal.returns
-returns c = c.from_be_bytes.ensures ∙ eight_bytes_read _ c.part_at.ensures.len ∙ ap from_be c.part_at.ensures.value
