@@ -1,18 +1,12 @@
-use Rattle.std.proofs.Common.{◌≡◌, ℕ, ◌-◌, [], ◌++◌, length, take, replicate, sym, refl, ap, ◌∙◌, arith, length-append}
-use Rattle.std.specs.Slice.Iter.{chunks_rest, chunks_size}
+use Rattle.std.proofs.Common.{◌≡◌, ℕ, ◌-◌, [], ◌++◌, length, take, replicate, sym, ap, ◌∙◌, arith, length-append}
+use Rattle.std.specs.Slice.Iter.{chunks_rest}
 use Rattle.std.proofs.lemmas.List.{length-replicate, nil_from_length, take_at, take-take}
+use Rattle.cipher.specs.Blocks.{on_front}
 use Rattle.cipher.specs.Bytes.{to_be}
 use Rattle.cipher.proofs.ByteLaws.{length_to_be}
 use Rattle.chain.specs.Tag.{◌⊕◌, blocks, chained, mac}
 use Rattle.chain.proofs.TagLaws.{length_xor, zeros_xor, blocks_none, front_of, chained_next}
 use Rattle.chain.proofs.mac.mac.Goals as goal
-
-pub loop-part-init : goal.loop-part-init
-loop-part-init g c = (
-  ap chunks_size c.into_iter-part-iterator.ensures.into_iter_gives ∙ c.chunks-part-items.ensures.size ∙ c.width.ensures,
-  c.begun-last.type_inv.1.0.1,
-  refl,
-)
 
 pub loop-part-preserved : goal.loop-part-preserved
 loop-part-preserved g c =
@@ -38,14 +32,15 @@ returns g c =
     let m = g.B.Block in
     let w = m.make.width in
     let encrypt = m.under c.args.cipher.now in
-    let message = c.args.message.now in
+    let message = c.args.message.bytes.now in
     let size = to_be w (length message) in
     let long = length_to_be w (length message) in
     let narrow = m.make.at_most in
     let block = size ++ replicate (16 - w) 0 in
     let wide : length block ≡ 16 = length-append size _ ∙ omega (arith, length-replicate {A = ℕ} (16 - w) 0) in
+    let begun : c.begun-last.result ≡ on_front w encrypt block = c.begun-last.ensures ∙ ap (λ n. on_front w encrypt (to_be w n ++ replicate (16 - w) 0)) c.len.ensures in
     let first : take w c.begun-last.result ≡ encrypt (replicate w 0 ⊕ size) =
-    front_of w encrypt block c.begun-last.result narrow wide c.begun-last.type_inv.1.0.1 c.begun-last.ensures ∙ ap encrypt (take_at size _ w long ∙ sym (zeros_xor w size long)) in
+    front_of w encrypt block c.begun-last.result narrow wide c.begun-last.type_inv.1.0.1 begun ∙ ap encrypt (take_at size _ w long ∙ sym (zeros_xor w size long)) in
     let none : chunks_rest c.loop-part.part-iterator ≡ [] = nil_from_length _ c.in-None.ensures.steps.1.0 in
     let whole : chunks_rest c.into_iter-part-iterator.result ≡ message =
     ap chunks_rest c.into_iter-part-iterator.ensures.into_iter_gives ∙ c.chunks-part-items.ensures.rest in
