@@ -5,7 +5,7 @@ ghost use Rattle.chain.specs.Chain.{derive as derived, down as down_by, interval
 use crate::mac::{Message, mac};
 use cipher::{Block, Key};
 
-// What a key is derived for. Bytes and no enum, since `derive` takes any byte.
+// What a key is derived for. Bytes and no enum, since `derive` takes any byte; each has a function, so that no caller names one.
 const STEP: u8 = 1;
 
 const INTERVAL_TAG: u8 = 2;

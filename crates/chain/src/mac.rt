@@ -22,7 +22,9 @@ pub(crate) struct Message<'a> {
 impl<'a> TryFrom<&'a [u8]> for Message<'a> {
     type Error = Refusal;
 
-    ghost try_from_gives = { λ bytes r. MatchResult r (λ m. m.bytes ≡ bytes) (λ e. (e ≡ TooLong) × (4096 < length bytes.now)) };
+    ghost try_from_gives = { λ bytes r. MatchResult r
+        (λ m. m.bytes ≡ bytes)
+        (λ e. (e ≡ TooLong) × (4096 < length bytes.now)) };
 
     fn try_from(bytes: &'a [u8]) -> Result<Message<'a>, Refusal> {
         if bytes.len() > LONGEST {
@@ -80,24 +82,23 @@ fn begun<B: Block>(cipher: &B, length: u16) -> [u8; 16]
     cipher.encrypt(length_block::<B>(length))
 }
 
-// The state of the chaining after one more part of a message, a block or what is left.
-fn absorbed<B: Block>(cipher: &B, last: [u8; 16], part: &[u8]) -> [u8; 16]
-    ensures { result ≡ on_front B.make.width (B.under cipher.now) (last ⊕ part.now) }
+// Chains one more part of a message, a block or what is left.
+fn absorb<B: Block>(cipher: &B, state: &mut [u8; 16], part: &[u8])
+    ensures { state.new ≡ on_front B.make.width (B.under cipher.now) (state.old ⊕ part.now) }
 {
-    cipher.encrypt(joined(last, part))
+    *state = cipher.encrypt(joined(*state, part));
 }
 
-// The tag of a message under a key that is set up. The two come apart, since one set-up serves both messages of a derivation.
+// The tag of a message under a key that is set up.
+// Cipher and message are no one type, since a key is set up once for both messages of a derivation.
 pub(crate) fn mac<B: Block>(cipher: &B, message: Message<'_>) -> [u8; 8]
     ensures { result ≡ take 8 (chained_mac B.make.width (B.under cipher.now) message.entry.bytes.now) }
 {
-    let mut last = begun(cipher, message.len());
+    let mut state = begun(cipher, message.len());
     for part in message.bytes.chunks(B::width()) {
-        // By a variable of its own: a call's array may not be stored over the one that the call reads.
-        let next = absorbed(cipher, last, part);
-        last = next;
+        absorb(cipher, &mut state, part);
     }
-    front(last)
+    front(state)
 }
 
 // The tag of a message under a key.
