@@ -1,5 +1,5 @@
 -- The tag of a byte string is 8 bytes, and a key's bytes are 16.
-use Rattle.std.proofs.Common.{ℕ, zero, suc, ◌-◌, ◌/◌, ◌≤◌, List, [], ◌∷◌, length, take, drop, replicate, ◌∙◌, arith}
+use Rattle.std.proofs.Common.{ℕ, zero, suc, ◌-◌, ◌≤◌, List, [], ◌∷◌, length, take, drop, replicate, ◌∙◌, arith}
 use Rattle.std.specs.List.{AllByRecursion}
 use Rattle.std.proofs.lemmas.Nat.{xor_lt}
 use Rattle.std.proofs.ByRecursion.{All-append, All-take, All-drop}
@@ -7,20 +7,16 @@ use Rattle.std.proofs.lemmas.List.{length-append, length-take, length-take-le, l
 use Rattle.cipher.specs.Blocks.{Make, Bytes}
 use Rattle.cipher.specs.Bytes.{to_le, to_be}
 use Rattle.cipher.specs.Keys.{key_bytes}
+use Rattle.cipher.specs.Makes.{bytes_to_le}
 use Rattle.cipher.specs.declared.key.Key.{Key}
 use Rattle.cipher.proofs.ByteLaws.{Byte, all_reverse, length_to_be}
 use Rattle.cipher.proofs.KeyLaws.{length_key_bytes}
 use Rattle.chain.specs.Tag.{◌⊕◌, filled, blocks_by, blocks, chained, mac, tag}
 use Rattle.chain.proofs.TagLaws.{length_xor}
 
-le_bytes : (n x : ℕ) → AllByRecursion Byte (to_le n x)
-unfolding to_le
-le_bytes zero x = tt
-le_bytes (suc n) x = (omega arith, le_bytes n (x / 256))
-
 pub be_bytes : (n x : ℕ) → Bytes n (to_be n x)
 unfolding to_be
-be_bytes n x = (length_to_be n x, all_reverse (to_le n x) (le_bytes n x))
+be_bytes n x = (length_to_be n x, all_reverse (to_le n x) (bytes_to_le n x).1)
 
 pub key_16 : (k : Key) → Bytes 16 (key_bytes k)
 unfolding key_bytes

@@ -1,14 +1,11 @@
 -- Laws of the exclusive or of byte strings, of the blocks of a message and of their chaining.
-use Rattle.std.proofs.Common.{◌≡◌, ℕ, zero, suc, ◌+◌, ◌-◌, ◌<◌, ◌≤◌, min, List, [], ◌∷◌, ◌++◌, length, get_or, take, drop, set, replicate, sym, refl, ap, ◌∙◌, append-nil, arith, length-append, length-drop}
-use lib.Bits.{bit_xor, xor_zero_r}
+use Rattle.std.proofs.Common.{◌≡◌, ℕ, zero, suc, ◌+◌, ◌-◌, ◌<◌, ◌≤◌, min, List, [], ◌∷◌, ◌++◌, length, get_or, map, take, drop, replicate, sym, refl, ap, ◌∙◌, append-nil, arith, length-append, length-drop}
+use Rattle.std.specs.List.{range_with_len}
+use Rattle.std.specs.Int.Bits.{bit_xor, xor_zero_r}
+use Rattle.std.proofs.lemmas.List.FromFn.{fill_by_all}
 use Rattle.std.proofs.lemmas.List.{take_all, drop_all, take_at, drop_at}
 use Rattle.cipher.specs.Blocks.{on_front}
 use Rattle.chain.specs.Tag.{◌⊕◌, filled, blocks_by, blocks, chained}
-
-pub xor_none : (xs : List ℕ) → xs ⊕ [] ≡ xs
-unfolding ◌⊕◌
-xor_none [] = refl
-xor_none (x ∷ xs) = refl
 
 pub length_xor : (xs ys : List ℕ) → length (xs ⊕ ys) ≡ length xs
 unfolding ◌⊕◌
@@ -16,14 +13,16 @@ length_xor [] ys = refl
 length_xor (x ∷ xs) [] = refl
 length_xor (x ∷ xs) (y ∷ ys) = ap suc (length_xor xs ys)
 
--- one byte more is joined
-pub xor_more : (xs ys : List ℕ) (i : ℕ) → i < length xs → i < length ys →
-    set (xs ⊕ take i ys) i (bit_xor (get_or (xs ⊕ take i ys) i 0) (get_or ys i 0)) ≡ xs ⊕ take (suc i) ys
+get_or_xor : (xs ys : List ℕ) (i : ℕ) → i < length xs → get_or (xs ⊕ ys) i 0 ≡ bit_xor (get_or xs i 0) (get_or ys i 0)
 unfolding ◌⊕◌
-xor_more [] ys i a b = absurd (omega arith)
-xor_more (x ∷ xs) [] i a b = absurd (omega arith)
-xor_more (x ∷ xs) (y ∷ ys) zero a b = ap (λ l. bit_xor x y ∷ l) (sym (xor_none xs))
-xor_more (x ∷ xs) (y ∷ ys) (suc i) a b = ap (λ l. bit_xor x y ∷ l) (xor_more xs ys i (omega arith) (omega arith))
+get_or_xor [] ys i h = absurd (omega arith)
+get_or_xor (x ∷ xs) [] i h = sym (xor_zero_r (get_or (x ∷ xs) i 0))
+get_or_xor (x ∷ xs) (y ∷ ys) zero h = refl
+get_or_xor (x ∷ xs) (y ∷ ys) (suc i) h = get_or_xor xs ys i (omega arith)
+
+-- the exclusive or, byte by byte
+pub xor_by_bytes : (xs ys : List ℕ) (n : ℕ) → length xs ≡ n → xs ⊕ ys ≡ map (λ i. bit_xor (get_or xs i 0) (get_or ys i 0)) (range_with_len 0 n)
+xor_by_bytes xs ys n long = fill_by_all (λ i. bit_xor (get_or xs i 0) (get_or ys i 0)) (xs ⊕ ys) n 0 (length_xor xs ys ∙ long) (λ i h. get_or_xor xs ys i (omega arith))
 
 -- zeros change nothing, on either side
 pub zeros_xor : (n : ℕ) (ys : List ℕ) → length ys ≡ n → replicate n 0 ⊕ ys ≡ ys

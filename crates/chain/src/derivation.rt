@@ -2,10 +2,10 @@
 ghost use Rattle.std.specs.Prelude.{◌≡◌, ℕ, ◌+◌};
 ghost use Rattle.chain.specs.Chain.{derive as derived, down as down_by, interval_tag_key, pair_tag_key, step as step_of};
 
-use crate::mac::mac;
+use crate::mac::{Message, mac};
 use cipher::{Block, Key};
 
-// What a key is derived for.
+// What a key is derived for. Bytes and no enum, since `derive` takes any byte; each has a function, so that no caller names one.
 const STEP: u8 = 1;
 
 const INTERVAL_TAG: u8 = 2;
@@ -17,8 +17,8 @@ pub fn derive<B: Block>(key: Key, purpose: u8) -> Key
     ensures { result ≡ derived B.make key purpose }
 {
     let cipher = B::keyed(key);
-    let high = mac(&cipher, &[purpose, 0]);
-    let low = mac(&cipher, &[purpose, 1]);
+    let high = mac(&cipher, Message::from(&[purpose, 0]));
+    let low = mac(&cipher, Message::from(&[purpose, 1]));
     Key::from_halves(high, low)
 }
 
@@ -29,22 +29,16 @@ pub fn step<B: Block>(key: Key) -> Key
     derive::<B>(key, STEP)
 }
 
-fn stepped<B: Block>(key: Key, steps: u32) -> Key
-    ensures { result ≡ down_by B.make key steps }
-{
-    let mut reached = key;
-    for s in 0..steps {
-        reached = step::<B>(reached);
-    }
-    reached
-}
-
 // Some steps down the chain; t steps more are that many and t from the first key.
 pub fn down<B: Block>(key: Key, steps: u32) -> Key
     ensures value { result ≡ down_by B.make key steps }
     ensures more { (t : ℕ) → down_by B.make result t ≡ down_by B.make key (steps + t) }
 {
-    stepped::<B>(key, steps)
+    let mut reached = key;
+    for _ in 0..steps {
+        reached = step::<B>(reached);
+    }
+    reached
 }
 
 // The key under which the packets of an interval are tagged.

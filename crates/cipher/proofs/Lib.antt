@@ -1,3 +1,4 @@
+pub mod Arrays
 pub mod ByteLaws
 pub mod KeyLaws
 pub mod Rc5Laws

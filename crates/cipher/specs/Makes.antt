@@ -10,7 +10,8 @@ use Rattle.cipher.specs.Blocks.{Bytes, Make}
 use Rattle.cipher.specs.Rc5.{rc5, encrypted, halves_bytes}
 use Rattle.cipher.specs.Adding.{adding}
 
-bytes_to_le : (n x : ℕ) → Bytes n (to_le n x)
+-- the bytes of a number are bytes
+pub bytes_to_le : (n x : ℕ) → Bytes n (to_le n x)
 unfolding to_le
 bytes_to_le zero x = (refl, tt)
 bytes_to_le (suc n) x = let rest = bytes_to_le n (x / 256) in (ap suc rest.0, (omega arith, rest.1))

@@ -5,6 +5,7 @@ ghost use Rattle.cipher.specs.Makes.{adding_make};
 
 use crate::block::Block;
 use crate::key::Key;
+use std::array;
 
 const WIDTH: usize = 16;
 
@@ -35,10 +36,6 @@ impl Block for Adding {
     }
 
     fn encrypt(&self, block: [u8; 16]) -> [u8; 16] {
-        let mut sums = block;
-        for m in 0..block.len() {
-            sums[m] = sum(block[m], self.key[m]);
-        }
-        sums
+        array::from_fn(|m| sum(block[m], self.key[m]))
     }
 }

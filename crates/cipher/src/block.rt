@@ -21,6 +21,7 @@ pub trait Block: Sized + Drop {
         ensures { under result ≡ make.value (key_bytes key) };
 
     // Encrypts the block in the first `width()` bytes; the bytes behind it stay.
+    // The array has 16 bytes for each cipher: in generic code a type's own width cannot be an array's length.
     fn encrypt(&self, block: [u8; 16]) -> [u8; 16]
         ensures { result ≡ on_front make.width (under self.now) block };
 }

@@ -9,6 +9,7 @@ pub struct Key {
     pub low: u64,
 }
 
+// Bytes are read and written by methods named as the integers' are, and not by `From`: a `[u8; 16]` says nothing of its order.
 impl Key {
     pub fn from_halves(high: [u8; 8], low: [u8; 8]) -> Key
         ensures { result ≡ key_of (high ++ low) }

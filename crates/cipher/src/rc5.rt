@@ -6,6 +6,7 @@ ghost use Rattle.cipher.specs.Rc5.{encrypted, mix, mixed, progression, round, ro
 
 use crate::block::Block;
 use crate::key::Key;
+use std::array;
 
 const WIDTH: usize = 8;
 
@@ -46,16 +47,11 @@ impl Mixing {
     fn start(key: Key) -> Mixing
         ensures { result ≡ unmixed (key_bytes key) }
     {
-        let [a, b, c, d, e, f, g, h, i, j, k, l, m, n, o, p] = key.to_bytes();
-        let key = [
-            u32::from_le_bytes([a, b, c, d]),
-            u32::from_le_bytes([e, f, g, h]),
-            u32::from_le_bytes([i, j, k, l]),
-            u32::from_le_bytes([m, n, o, p]),
-        ];
+        let bytes = key.to_bytes();
+        let (words, _) = bytes.as_chunks::<4>();
         Mixing {
             table: first_table(),
-            key,
+            key: array::from_fn(|i| u32::from_le_bytes(words[i])),
             a: 0,
             b: 0,
         }
@@ -81,6 +77,7 @@ impl Mixing {
         self.b = b;
     }
 
+    // The rounds are counted, since each takes the words at its own number.
     fn mixed(self) -> Mixing
         ensures { result ≡ mixed 78 self }
     {
@@ -110,26 +107,25 @@ impl Halves {
         }
     }
 
-    // Round `r`, from 1.
-    fn round(self, r: usize, table: &[u32; 26]) -> Halves
-        requires { r ≤ 12 }
-        ensures { result ≡ round r table.now self }
+    // One round, by its two words alone: those of round 0 in a table of their own.
+    fn round(self, words: [u32; 2]) -> Halves
+        ensures { result ≡ round 0 words self }
     {
-        let a = (self.a ^ self.b)
-            .rotate_left(self.b)
-            .wrapping_add(table[2 * r]);
-        let b = (self.b ^ a).rotate_left(a).wrapping_add(table[2 * r + 1]);
+        let a = (self.a ^ self.b).rotate_left(self.b).wrapping_add(words[0]);
+        let b = (self.b ^ a).rotate_left(a).wrapping_add(words[1]);
         Halves { a, b }
     }
 
+    // Each pair of words behind the first has its round.
     fn rounds(self, table: &[u32; 26]) -> Halves
         ensures { result ≡ rounds 12 table.now self }
     {
-        let mut h = self;
-        for r in 1..=12 {
-            h = h.round(r, table);
+        let (pairs, _) = table.as_chunks::<2>();
+        let mut halves = self;
+        for pair in &pairs[1..] {
+            halves = halves.round(*pair);
         }
-        h
+        halves
     }
 }
 

@@ -8,5 +8,8 @@ invariant-loop-part g l =
     let m = g.B.Block in
     let w = m.make.width in
     let encrypt = m.under l.cipher in
-    (chunks_size l.part-iterator ≡ w) × (length l.last ≡ 16) ×
-    (chained encrypt (take w l.last) (blocks w (chunks_rest l.part-iterator)) ≡ chained encrypt (take w l.initial.last) (blocks w (chunks_rest l.initial.part-iterator)))
+    record {
+      size : chunks_size l.part-iterator ≡ w;
+      long : length l.state ≡ 16;
+      ends : chained encrypt (take w l.state) (blocks w (chunks_rest l.part-iterator)) ≡ chained encrypt (take w l.initial.state) (blocks w (chunks_rest l.initial.part-iterator));
+    }

@@ -1,11 +1,8 @@
-use Rattle.std.proofs.Common.{◌≡◌, ◌-◌, ◌++◌, take, sym, refl, ap, ◌∙◌, append-nil, arith, length-set}
+use Rattle.std.proofs.Common.{◌≡◌, ◌-◌, ◌++◌, take, sym, ap, ◌∙◌, append-nil, arith, length-set}
 use Rattle.std.proofs.lemmas.List.{take_all}
 use Rattle.cipher.specs.Rc5.{progression}
 use Rattle.cipher.proofs.Rc5Laws.{progression_next}
 use Rattle.cipher.proofs.rc5.first_table.Goals as goal
-
-pub loop-slot-init : goal.loop-slot-init
-loop-slot-init c = (refl, refl)
 
 pub loop-slot-preserved : goal.loop-slot-preserved
 loop-slot-preserved c =

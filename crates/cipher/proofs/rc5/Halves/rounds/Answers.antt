@@ -1,14 +1,19 @@
-use Rattle.std.proofs.Common.{◌≡◌, ◌+◌, ◌-◌, refl, ap, ◌∙◌, arith}
+use Rattle.std.proofs.Common.{rules, ◌≡◌, length, [], drop, take, get_or, ◌-◌, refl, ◌∙◌, arith}
+use Rattle.std.proofs.lemmas.Grind.{common_steps}
+use Rattle.std.specs.Simd.{first_chunks}
 use Rattle.cipher.specs.Rc5.{round, rounds}
 use Rattle.cipher.proofs.Rc5Laws.{rounds_next}
 use Rattle.cipher.proofs.rc5.Halves.rounds.Goals as goal
 
-pub loop-r-init : goal.loop-r-init
+pub loop-pair-init : goal.loop-pair-init
 unfolding rounds
-loop-r-init c = refl
+loop-pair-init c = refl
 
-pub loop-r-preserved : goal.loop-r-preserved
-loop-r-preserved c =
+pub loop-pair-preserved : goal.loop-pair-preserved
+loop-pair-preserved c =
     let table = c.args.table.now in
-    let back : c.loop-r.r + 1 - 1 ≡ c.loop-r.r = omega arith in
-    rw back (c.round-h.ensures ∙ ap (round c.loop-r.r table) c.loop-r.invariant ∙ rounds_next c.loop-r.r table _ c.loop-r.auto.r)
+    let pairs = c.as_chunks.result.0.now in
+    let i = c.loop-pair.pair-index in
+    let cut : pairs ≡ first_chunks 2 13 table = search rules in
+    let behind : take (length pairs - 1) (drop 1 pairs) ≡ drop 1 pairs = grind (arith, common_steps) in
+    c.round-halves.ensures ∙ (λ j. round 0 (get_or (behind j) i []) (c.loop-pair.invariant j)) ∙ rounds_next pairs i table _ cut (omega arith)
