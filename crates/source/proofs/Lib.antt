@@ -1,2 +1,5 @@
+pub mod EvenPlaces
 pub mod KeysFrom
+pub mod SizeTests
+pub mod UnusedSources
 pub mod WholeRuns

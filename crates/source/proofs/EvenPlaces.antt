@@ -1,0 +1,8 @@
+-- The places that levels serve, within the largest chain.
+use Rattle.std.proofs.Common.{◌≡◌, ℕ, ◌%◌, ◌^◌, ◌<◌, ◌≤◌, arith, pow_mono}
+use Rattle.pebbles.specs.Levels.{zeros}
+use Rattle.pebbles.proofs.Ready.{zeros_within}
+
+-- an even place has between 1 and 12 trailing zero bits
+pub zeros_of_even : (place : ℕ) → 0 < place → place ≤ 4096 → place % 2 ≡ 0 → (0 < zeros place) × (zeros place ≤ 12) × (2 ^ zeros place ≤ 4096)
+zeros_of_even place some most even = let z = zeros_within 12 place (omega arith) some most even in (z.0, z.1, pow_mono z.1)
