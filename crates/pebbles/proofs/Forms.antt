@@ -87,13 +87,13 @@ module _ {X Y : Type 0} {o : Y} {step : X → X} {k room g : ℕ} {ls low : Leve
   placed_even {after = after} gives = placed_next o step k room g ls after mid.placed gives.levels
 
   -- levels are read with the default d
-  pub gives_odd : (d : Level X) (z : ℕ) (key : X) → (g + 1) % 2 ≡ 1 → z ≡ zeros (g + 1 + 1) - 1 → key ≡ step (get_or low z d).key
-      → Gives (call step (2 ^ k) (g + 1) ls) key (spent + 1) low
-  gives_odd d z key odd at e = record {
+  pub gives_odd : (d : Level X) (z : ℕ) (key : X) (taken : ℕ) → (g + 1) % 2 ≡ 1 → z ≡ zeros (g + 1 + 1) - 1 → key ≡ step (get_or low z d).key → taken ≡ spent + 1
+      → Gives (call step (2 ^ k) (g + 1) ls) key taken low
+  gives_odd d z key taken odd at e t = record {
     answer =
         ap (λ c. c.answer) (odd_is odd) ∙ ap (key_below step) (found o low (zeros (g + 1 + 1)) d _ (ready.odd odd)).0
         ∙ ap (λ x. Some (step (get_or low x d).key)) (sym at) ∙ ap Some (sym e);
-    steps = ap (λ c. c.steps) (odd_is odd);
+    steps = ap (λ c. c.steps) (odd_is odd) ∙ sym t;
     levels = ap (λ c. c.levels) (odd_is odd);
   }
 
@@ -103,13 +103,12 @@ module _ {X Y : Type 0} {o : Y} {step : X → X} {k room g : ℕ} {ls low : Leve
     even_answer =
         ap (λ c. c.answer) (even_is even) ∙ ap key_of (found o low (zeros (g + 1)) d _ (ready.even even)).0 ∙ ap (λ x. Some (get_or low x d).key) (sym at)
 
-    -- it is refilled from the level of index `source`
-    pub gives_refill : (source : ℕ) → g + 1 + 2 * stride ≤ 2 ^ k → source ≡ zeros (g + 1 + 3 * stride) - 1
-        → Gives (call step (2 ^ k) (g + 1) ls) (get_or low z d).key spent
-        (set low z (record (get_or low source d) { place = g + 1 + 3 * stride; target = g + 1 + 2 * stride }))
-    gives_refill source goes_on from =
+    -- it is refilled from the level that serves the place where it goes on
+    pub gives_refill : (after : Level X) → g + 1 + 2 * stride ≤ 2 ^ k
+        → after ≡ record (get_or low (zeros (g + 1 + 3 * stride) - 1) d) { place = g + 1 + 3 * stride; target = g + 1 + 2 * stride }
+        → Gives (call step (2 ^ k) (g + 1) ls) (get_or low z d).key spent (set low z after)
+    gives_refill after goes_on refilled =
         let goes_on' : g + 1 + 2 * 2 ^ zeros (g + 1) ≤ 2 ^ k = omega arith in
-        let from' : source ≡ zeros (g + 1 + 3 * 2 ^ zeros (g + 1)) - 1 = from ∙ ap (λ w. zeros (g + 1 + 3 * w) - 1) wide in
         let there = found o low (zeros (g + 1 + 3 * 2 ^ zeros (g + 1))) d _ (ready.refill even goes_on') in
         record {
           answer = even_answer;
@@ -118,9 +117,11 @@ module _ {X Y : Type 0} {o : Y} {step : X → X} {k room g : ℕ} {ls low : Leve
               ap (λ c. c.levels) (even_is even)
               ∙ ap (with_level low (zeros (g + 1)))
               (cond-true _ _ _ (le-leb _ _ goes_on') ∙ ap (λ l. with_key_of l (g + 1 + 3 * 2 ^ zeros (g + 1)) (g + 1 + 2 * 2 ^ zeros (g + 1))) there.0)
-              ∙ (λ x. set low (sym at x) (record { key = (get_or low (sym from' x) d).key; place = g + 1 + 3 * sym wide x; target = g + 1 + 2 * sym wide x; away = false }))
-              ∙ ap (λ b. set low z (record { key = (get_or low source d).key; place = g + 1 + 3 * stride; target = g + 1 + 2 * stride; away = b }))
-              (sym (ap (λ x. (get_or low x d).away) from' ∙ there.1));
+              ∙ ap (λ b. set low (zeros (g + 1) - 1)
+              (record (get_or low (zeros (g + 1 + 3 * 2 ^ zeros (g + 1)) - 1) d) { place = g + 1 + 3 * 2 ^ zeros (g + 1); target = g + 1 + 2 * 2 ^ zeros (g + 1); away = b }))
+              (sym there.1)
+              ∙ (λ x. set low (sym at x) (record (get_or low (zeros (g + 1 + 3 * sym wide x) - 1) d) { place = g + 1 + 3 * sym wide x; target = g + 1 + 2 * sym wide x }))
+              ∙ ap (set low z) (sym refilled);
         }
 
     -- it is put away

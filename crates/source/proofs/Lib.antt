@@ -1,3 +1,4 @@
+pub mod DrawnCalls
 pub mod EvenPlaces
 pub mod KeysFrom
 pub mod SizeTests

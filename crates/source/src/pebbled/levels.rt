@@ -1,7 +1,10 @@
 // What a call does to the levels of a pebbled source.
-ghost use Rattle.std.specs.Prelude.{◌≡◌, ◌+◌, ◌-◌, ◌*◌, ◌%◌, ◌^◌, ◌<◌, ◌≤◌, true, map, if◌then◌else◌, All};
+ghost use Rattle.std.specs.Prelude.{◌≡◌, ◌+◌, ◌-◌, ◌*◌, ◌%◌, ◌^◌, ◌<◌, ◌≤◌, true, map, if◌then◌else◌, slice_index_or, All, Ok};
 ghost use Rattle.chain.specs.Chain.{step as step_of};
 ghost use Rattle.pebbles.specs.Levels.{Gives, call, lowered, lowering_steps, moves, zeros};
+ghost use Rattle.source.specs.Chains.{no_level};
+ghost use Rattle.source.specs.Meanings.{stepped};
+ghost use Rattle.source.specs.Sources.{Draw};
 
 use crate::limits::{LEVELS, MOST_KEYS};
 use crate::pebbled::Pebbled;
@@ -61,34 +64,52 @@ fn stride_of(place: u32) -> u32
     1 << place.trailing_zeros()
 }
 
+// What an odd place gives, by one step more: the key below that of the level that serves the place above it.
+fn below<B: Block>(levels: &[Level<Key>; LEVELS], place: u32, spent: u32) -> (Key, u32)
+    requires most { place < MOST_KEYS }
+    requires odd { place % 2 ≡ 1 }
+    requires few { spent ≤ 2 * LEVELS }
+    ensures key { result.0 ≡ step_of B.make (slice_index_or levels.now (zeros (place + 1) - 1) no_level).key }
+    ensures steps { result.1 ≡ spent + 1 }
+{
+    let above = levels[index_of(place + 1)];
+    (step::<B>(above.key), spent + 1)
+}
+
+// What becomes of a level that served a place: it gets the key of the level that is to serve the place where it goes on.
+fn refilled(levels: &[Level<Key>; LEVELS], place: u32, stride: u32) -> Level<Key>
+    requires most { place + 3 * stride ≤ MOST_KEYS }
+    requires even { (place + 3 * stride) % 2 ≡ 0 }
+    requires some { 0 < place }
+    ensures { result ≡ record (slice_index_or levels.now (zeros (place + 3 * stride) - 1) no_level) { place = place + 3 * stride; target = place + 2 * stride } }
+{
+    let refill = place + 3 * stride;
+    Level {
+        place: refill,
+        target: place + 2 * stride,
+        ..levels[index_of(refill)]
+    }
+}
+
 impl<B: Block> Pebbled<B> {
     // The next key, with the steps that it took: the call by the rule.
     #[tactic(auto, using(crate::specs::Sizes::few_at_most))]
     pub(super) fn give(&mut self) -> (Key, u32)
         requires { self.old.given < 2 ^ self.old.size.bits }
-        ensures call { Gives (call (step_of B.make) (2 ^ self.old.size.bits) (self.old.given + 1) self.old.levels) result.0 result.1 self.new.levels }
-        ensures given { self.new.given ≡ self.old.given + 1 }
-        ensures size { self.new.size ≡ self.old.size }
+        ensures rule { Gives (call (step_of B.make) (2 ^ self.old.size.bits) (self.old.given + 1) self.old.levels) result.0 result.1 self.new.levels }
+        ensures draw { Draw (stepped B.make) self.old (Ok result) self.new }
     {
         let place = self.given + 1;
         let steps = lower_levels::<B>(&mut self.levels);
         self.given = place;
         if place % 2 == 1 {
-            // an odd place is served by the level of the place above it
-            let above = self.levels[index_of(place + 1)];
-            return (step::<B>(above.key), steps + 1);
+            return below::<B>(&self.levels, place, steps);
         }
         let served = index_of(place);
         let key = self.levels[served].key;
         let stride = stride_of(place);
-        let target = place + 2 * stride;
-        if target <= self.size.keys() {
-            let refill = place + 3 * stride;
-            self.levels[served] = Level {
-                place: refill,
-                target,
-                ..self.levels[index_of(refill)]
-            };
+        if place + 2 * stride <= self.size.keys() {
+            self.levels[served] = refilled(&self.levels, place, stride);
         } else {
             self.levels[served].away = true;
         }
