@@ -1,7 +1,7 @@
 -- The numbers of keys that a table may have are the powers of two from 2 to 4,096.
-use Rattle.std.proofs.Common.{◌≡◌, ℕ, zero, suc, ◌+◌, ◌*◌, ◌/◌, ◌%◌, ◌^◌, ◌<◌, ◌≤◌, count_ones, refl, sym, ap, ◌∙◌, ⊎_elim, arith, pow-suc, pow_pos, pow_mono}
-use Rattle.std.proofs.lemmas.Nat.{ones_cat, pow_below, zero_from_ones}
-use Rattle.std.proofs.lemmas.Bool.{cases_lt}
+use Rattle.std.proofs.Common.{◌≡◌, ℕ, zero, suc, ◌+◌, ◌*◌, ◌/◌, ◌%◌, ◌^◌, ◌<◌, ◌≤◌, count_ones, refl, sym, ap, ◌∙◌, arith, pow-suc, pow_pos}
+use Rattle.std.proofs.lemmas.Nat.{ones_cat, zero_from_ones}
+use Rattle.pebbles.proofs.Strides.{exponent_le}
 use lib.Count.{ones, ones_in, ones_step}
 use Rattle.source.specs.Sizes.{Size, few_at_most, two_at_least}
 
@@ -19,10 +19,7 @@ power_of_ones (suc w) n small one = go (n % 2) refl (power_of_ones w (n / 2) (om
 pub size_of_power : (n : ℕ) → count_ones n ≡ 1 → 2 ≤ n → n ≤ 4096 → Size n
 size_of_power n one least most =
     let power = power_of_ones 13 n (omega arith) one in
-    (power.0,
-    ⊎_elim (λ (low : power.0 < 1). absurd (omega (arith, pow_mono {i = power.0} {j = 0} (omega arith)))) (λ some. some) (cases_lt power.0 1),
-    ⊎_elim (λ (high : 12 < power.0). absurd (omega (arith, pow_below 12 power.0 high))) (λ few. few) (cases_lt 12 power.0),
-    power.1)
+    (power.0, exponent_le 1 power.0 (omega (arith, power.1)), exponent_le power.0 12 (omega (arith, power.1)), power.1)
 
 pub power_of_size : (n : ℕ) → Size n → (count_ones n ≡ 1) × (2 ≤ n) × (n ≤ 4096)
 unfolding ones ones_in

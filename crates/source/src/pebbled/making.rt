@@ -9,7 +9,7 @@ use chain::down;
 use cipher::{Block, Key};
 use pebbles::Level;
 
-#[tactic(auto, using(pebbles::proofs::Making::made_none))]
+#[tactic(auto, using(pebbles::proofs::Making::made_none, crate::proofs::EvenPlaces::first_place))]
 pub(super) fn unused<B: Block>(last: Key, size: ChainSize) -> [Level<Key>; LEVELS]
     ensures { result ≡ levels_after (step_of B.make) last size.bits LEVELS 0 }
 {

@@ -27,10 +27,10 @@ midway make p more lower =
 
 -- ---- an odd place
 
-pub invariant_of-self : goal.invariant_of-self
-invariant_of-self g c =
+pub invariant_of-self-clause-placed : goal.invariant_of-self-clause-placed
+invariant_of-self-clause-placed g c =
     let mid = midway g.B.Block.make c.args.self.now c.requires c.lower_levels-steps.ensures in
-    record { within = omega arith; placed = placed_odd mid (omega arith) }
+    placed_odd mid (omega arith)
 
 pub returns-then-place-eq1-clause-rule : goal.returns-then-place-eq1-clause-rule
 returns-then-place-eq1-clause-rule g c =
@@ -42,21 +42,17 @@ returns-then-place-eq1-clause-draw g c = draw_given g.B.Block.make c.args.self.n
 
 -- ---- an even place, whose level goes on
 
-pub refilled-requires-clause-most : goal.refilled-requires-clause-most
-refilled-requires-clause-most g c =
+pub refilled-requires : goal.refilled-requires
+refilled-requires g c =
     let p = c.args.self.now in
-    omega (arith, few_at_most p.size.bits p.size.most, refill_place p.size.bits (p.given + 1) (omega arith) (omega arith) (omega arith) (omega arith) (omega arith))
+    let at = refill_place p.size.bits (p.given + 1) (omega arith) (omega arith) (omega arith) (omega arith) (omega arith) in
+    record { most = omega (arith, few_at_most p.size.bits p.size.most); even = omega arith; some = omega arith }
 
-pub refilled-requires-clause-even : goal.refilled-requires-clause-even
-refilled-requires-clause-even g c =
-    let p = c.args.self.now in
-    omega (arith, refill_place p.size.bits (p.given + 1) (omega arith) (omega arith) (omega arith) (omega arith) (omega arith))
-
-pub invariant_of-self-then-place-stride : goal.invariant_of-self-then-place-stride
-invariant_of-self-then-place-stride g c =
+pub invariant_of-self-then-place-stride-clause-placed : goal.invariant_of-self-then-place-stride-clause-placed
+invariant_of-self-then-place-stride-clause-placed g c =
     let mid = midway g.B.Block.make c.args.self.now c.requires c.lower_levels-steps.ensures in
     let gives = gives_refill mid no_level _ _ (omega arith) c.index_of-served.ensures.level c.stride_of-stride.ensures.power _ (omega arith) c.refilled.ensures in
-    record { within = omega arith; placed = placed_even mid gives }
+    placed_even mid gives
 
 pub returns-then-place-stride-clause-rule : goal.returns-then-place-stride-clause-rule
 returns-then-place-stride-clause-rule g c =
@@ -68,11 +64,11 @@ returns-then-place-stride-clause-draw g c = draw_given g.B.Block.make c.args.sel
 
 -- ---- an even place, whose level is put away
 
-pub invariant_of-self-else-place-stride : goal.invariant_of-self-else-place-stride
-invariant_of-self-else-place-stride g c =
+pub invariant_of-self-else-place-stride-clause-placed : goal.invariant_of-self-else-place-stride-clause-placed
+invariant_of-self-else-place-stride-clause-placed g c =
     let mid = midway g.B.Block.make c.args.self.now c.requires c.lower_levels-steps.ensures in
     let gives = gives_away mid no_level _ _ (omega arith) c.index_of-served.ensures.level c.stride_of-stride.ensures.power (omega arith) in
-    record { within = omega arith; placed = placed_even mid gives }
+    placed_even mid gives
 
 pub returns-else-place-stride-clause-rule : goal.returns-else-place-stride-clause-rule
 returns-else-place-stride-clause-rule g c =
