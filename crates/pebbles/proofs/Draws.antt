@@ -1,15 +1,10 @@
 -- What the calls from some state on give, and how the state goes on.
-use Rattle.std.proofs.Common.{◌≡◌, ℕ, zero, suc, ◌+◌, ◌-◌, ◌*◌, ◌%◌, ◌^◌, ◌<◌, ◌≤◌, ◌∷◌, map, length, count_by, sym, refl, ap, ◌∙◌, ap₂, add-one, arith}
+use Rattle.std.proofs.Common.{◌≡◌, ℕ, zero, suc, ◌+◌, ◌-◌, ◌*◌, ◌%◌, ◌^◌, ◌<◌, ◌≤◌, ◌∷◌, map, count_by, sym, refl, ap, ◌∙◌, ap₂, add-one, arith}
 use Rattle.std.specs.List.{range_with_len}
-use Rattle.pebbles.specs.Draws.{Placed, bare, draws, or_else, same, steps_after}
+use Rattle.pebbles.specs.Draws.{Placed, draws, or_else, same, steps_after}
 use Rattle.pebbles.specs.Levels.{Gives, Levels, call, key_at, levels_after, moves}
-use Rattle.pebbles.proofs.Bare.{bare_call, bare_count, placed_after}
+use Rattle.pebbles.proofs.Bare.{bare_count, placed_after}
 use Rattle.pebbles.proofs.Runs.{run, steps_counted}
-
-pub length_draws : {X : Type 0} (step : X → X) (d : X) (n c g : ℕ) (ls : Levels X) → length (draws step d n c g ls) ≡ c
-unfolding draws
-length_draws step d n zero g ls = refl
-length_draws step d n (suc c) g ls = ap suc (length_draws step d n c (g + 1) (call step n (g + 1) ls).levels)
 
 -- a call gives the first of them, and leaves the others
 pub draws_next : {X : Type 0} (step : X → X) (d : X) (n c g : ℕ) (ls after : Levels X) (key : X) (taken : ℕ) → Gives (call step n (g + 1) ls) key taken after
@@ -19,13 +14,6 @@ draws_next step d n zero g ls after key taken gives pos = absurd (omega arith)
 draws_next step d n (suc c) g ls after key taken gives pos =
     let one_less : c ≡ suc c - 1 = omega arith in
     ap₂ ◌∷◌ (ap (or_else d) gives.answer) (ap₂ (λ m l. draws step d n m (g + 1) l) one_less gives.levels)
-
-pub placed_on : {X Y : Type 0} (o : Y) (step : X → X) (k room g : ℕ) (ls after : Levels X) (key : X) (taken : ℕ)
-    → Gives (call step (2 ^ k) (g + 1) ls) key taken after → Placed o ls k room g → Placed o after k room (g + 1)
-unfolding levels_after
-placed_on o step k room g ls after key taken gives placed =
-    ap (map (bare o)) (sym gives.levels) ∙ sym (bare_call o step (2 ^ k) (g + 1) ls) ∙ ap (λ l. (call same (2 ^ k) (g + 1) l).levels) placed
-    ∙ ap (levels_after same o k room) (sym (add-one g))
 
 -- the steps are those that the places tell
 pub steps_placed : {X Y : Type 0} (o : Y) (step : X → X) (k room g : ℕ) (ls : Levels X) → Placed o ls k room g

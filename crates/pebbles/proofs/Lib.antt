@@ -5,7 +5,6 @@ pub mod Rows
 pub mod Ready
 pub mod Calls
 pub mod Runs
-pub mod Lowering
 pub mod Bare
 pub mod Forms
 pub mod Draws

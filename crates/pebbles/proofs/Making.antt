@@ -35,21 +35,21 @@ pub record MadeFrom {X : Type 0} (step : X → X) (top : X) (k room : ℕ) (d : 
   pub of_chain : key ≡ key_at step top k place
   pub made : (a : ℕ) → a < room → j ≤ a → get_or ls a d ≡ first_level step top k (1 + a)
 
-module _ {X : Type 0} (step : X → X) (top : X) (k room : ℕ) (d : Level X) where
-  pub made_none : (n : ℕ) → n ≡ 2 ^ k → MadeFrom step top k room d k (replicate room (record { key = top; place = n; target = n; away = true })) top n
-  made_none n e = record {
-    long = length-replicate room _;
-    above = omega arith;
-    within = omega arith;
-    of_chain = sym (key_at_last step top k) ∙ ap (key_at step top k) (sym e);
-    made = λ a inside from.
-        get_or-replicate room a _ d inside ∙ ap (λ x. record { key = top; place = x; target = x; away = true }) e
-        ∙ sym (cond-false _ _ _ (lt-leb (1 + a) k (omega arith)));
-  }
+pub made_none : {X : Type 0} (step : X → X) (top : X) (k room : ℕ) (d : Level X) (n : ℕ) → n ≡ 2 ^ k
+    → MadeFrom step top k room d k (replicate room (record { key = top; place = n; target = n; away = true })) top n
+made_none step top k room d n e = record {
+  long = length-replicate room _;
+  above = omega arith;
+  within = omega arith;
+  of_chain = sym (key_at_last step top k) ∙ ap (key_at step top k) (sym e);
+  made = λ a inside from.
+      get_or-replicate room a _ d inside ∙ ap (λ x. record { key = top; place = x; target = x; away = true }) e
+      ∙ sym (cond-false _ _ _ (lt-leb (1 + a) k (omega arith)));
+}
 
+module _ {X : Type 0} {step : X → X} {top : X} {k room : ℕ} {d : Level X} {j place : ℕ} {key : X} {ls : Levels X} (so_far : MadeFrom step top k room d j ls key place) where
   -- the turn that fills level j
-  module _ (j lower place : ℕ) (key after : X) (ls : Levels X) (so_far : MadeFrom step top k room d j ls key place) (pos : 0 < j) (in_use : j ≤ k) (fits : k ≤ room)
-      (e : lower ≡ 2 ^ j) (walked : after ≡ down step key (place - lower)) where
+  module _ (lower : ℕ) (after : X) (pos : 0 < j) (in_use : j ≤ k) (fits : k ≤ room) (e : lower ≡ 2 ^ j) (walked : after ≡ down step key (place - lower)) where
     walked_to : after ≡ key_at step top k lower
     walked_to =
         walked ∙ ap (λ x. down step x (place - lower)) so_far.of_chain
@@ -79,9 +79,9 @@ module _ {X : Type 0} (step : X → X) (top : X) (k room : ℕ) (d : Level X) wh
     }
 
   -- the levels are those of an unused source once the walk is done
-  pub made_all : (j place : ℕ) (key : X) (ls : Levels X) → MadeFrom step top k room d j ls key place → j ≤ 0 → ls ≡ levels_after step top k room 0
+  pub made_all : j ≤ 0 → ls ≡ levels_after step top k room 0
   unfolding levels_after unused
-  made_all j place key ls done last =
-      ext_get_or d ls (map (first_level step top k) (range_with_len 1 room)) (done.long ∙ sym (length-map-range_with_len (first_level step top k) 1 room)) λ a inside.
-      let within : a < room = omega (arith, done.long) in
-      done.made a within (omega arith) ∙ sym (get_or-map-range_with_len (first_level step top k) 1 room a (1 + a) d within refl)
+  made_all last =
+      ext_get_or d ls (map (first_level step top k) (range_with_len 1 room)) (so_far.long ∙ sym (length-map-range_with_len (first_level step top k) 1 room)) λ a inside.
+      let within : a < room = omega (arith, so_far.long) in
+      so_far.made a within (omega arith) ∙ sym (get_or-map-range_with_len (first_level step top k) 1 room a (1 + a) d within refl)

@@ -1,5 +1,6 @@
 -- A row of levels made from a function of the level's number: a map over it, a write to it, a count over it.
 use Rattle.std.proofs.Common.{◌≡◌, ℕ, zero, suc, ◌+◌, ◌-◌, ◌*◌, ◌<◌, ◌≤◌, Bool, true, false, cond, ◌≢◌, ◌⊎◌, ◌∷◌, map, get_or, set, Some, count_by, sym, refl, ap, ◌∙◌, ap₂, inl, inr, ⊎_elim, arith}
+use mathlib.Core.List.{map-map}
 use Rattle.std.proofs.lemmas.List.FromFn.{length-map-range_with_len, get_or-map-range_with_len}
 use Rattle.std.proofs.lemmas.List.{ext_get_or, length-set, get_or-set_same, get_or-set_other}
 use Rattle.std.proofs.lemmas.Option.{slice_get-get_or}
@@ -7,20 +8,17 @@ use Rattle.std.proofs.lemmas.List.Sums.{sum_by-cons}
 use Rattle.std.proofs.lemmas.Bool.{cases_eq, cases_Bool, true≢false}
 use Rattle.std.specs.List.{range_with_len, slice_get}
 
-pub map_row : {X : Type 0} (h : X → X) (f f' : ℕ → X) (a n : ℕ) → ((j : ℕ) → a ≤ j → h (f j) ≡ f' j) → map h (map f (range_with_len a n)) ≡ map f' (range_with_len a n)
-map_row h f f' a zero same = refl
-map_row h f f' a (suc n) same = ap₂ ◌∷◌ (same a (omega arith)) (map_row h f f' (a + 1) n (λ j l. same j (omega arith)))
-
 pub same_row : {X : Type 0} (f f' : ℕ → X) (a n : ℕ) → ((j : ℕ) → a ≤ j → f j ≡ f' j) → map f (range_with_len a n) ≡ map f' (range_with_len a n)
 same_row f f' a zero same = refl
 same_row f f' a (suc n) same = ap₂ ◌∷◌ (same a (omega arith)) (same_row f f' (a + 1) n (λ j l. same j (omega arith)))
 
-pub row_at : {X : Type 0} (f : ℕ → X) (n j : ℕ) (d : X) → 0 < j → j ≤ n → get_or (map f (range_with_len 1 n)) (j - 1) d ≡ f j
-row_at f n j d pos within = get_or-map-range_with_len f 1 n (j - 1) j d (omega arith) (omega arith)
+pub map_row : {X Y : Type 0} (h : X → Y) (f : ℕ → X) (f' : ℕ → Y) (a n : ℕ) → ((j : ℕ) → a ≤ j → h (f j) ≡ f' j) → map h (map f (range_with_len a n)) ≡ map f' (range_with_len a n)
+map_row h f f' a n same = map-map h f (range_with_len a n) ∙ same_row (λ j. h (f j)) f' a n same
 
 pub row_nth : {X : Type 0} (f : ℕ → X) (n j : ℕ) → 0 < j → j ≤ n → slice_get (map f (range_with_len 1 n)) (j - 1) ≡ Some (f j)
 row_nth f n j pos within =
-    slice_get-get_or (map f (range_with_len 1 n)) (j - 1) (f j) (omega (arith, length-map-range_with_len f 1 n)) ∙ ap Some (row_at f n j (f j) pos within)
+    slice_get-get_or (map f (range_with_len 1 n)) (j - 1) (f j) (omega (arith, length-map-range_with_len f 1 n))
+    ∙ ap Some (get_or-map-range_with_len f 1 n (j - 1) j (f j) (omega arith) (omega arith))
 
 -- level t is written, and the others stay
 module _ {X : Type 0} (f f' : ℕ → X) (n t : ℕ) (x : X) (pos : 0 < t) (within : t ≤ n) (here : x ≡ f' t) (others : (j : ℕ) → 0 < j → j ≢ t → f j ≡ f' j) where

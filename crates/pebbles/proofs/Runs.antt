@@ -2,6 +2,7 @@
 use Rattle.std.proofs.Common.{◌≡◌, ℕ, zero, suc, ◌+◌, ◌-◌, ◌*◌, ◌%◌, ◌^◌, ◌<◌, ◌≤◌, Bool, true, false, cond, eqb, leb, map, Some, sym, refl, ap, ◌∙◌, subst, ap₂, ⊎_elim, mul-one, arith, pow_pos, pow_mono}
 use native.Mathlib.Nat.{sub_self}
 use Rattle.std.proofs.lemmas.Nat.{pow_below}
+use Rattle.std.proofs.lemmas.Option.{none-some}
 use Rattle.std.proofs.lemmas.Bool.{cases_lt, cond-true, cond-false, eqb-false, leb-true, leb-false, le-leb, lt-leb}
 use Rattle.pebbles.specs.declared.level.Level.{Level}
 use Rattle.pebbles.specs.Levels.{Levels, call, call_after, down, first_level, key_at, level, levels_after, lowered, lowering_steps, unless_away, unused}
@@ -33,7 +34,7 @@ standing_kept {X} chain k j q r l pos = go (leb t (2 ^ k)) refl (eqb q 0) refl
     go : (b : Bool) → leb t (2 ^ k) ≡ b → (z : Bool) → eqb q 0 ≡ z
         → unless_away (Some (cond b (pebble chain (t + cond z 0 (2 ^ j - 2 * r)) t) (away_at chain (cond z (2 ^ k) (next_target (2 ^ j) (q - 1)))))) ≡ Some l
         → Kept chain (2 ^ k) l
-    go false _ z _ e = let no_level : ◌≡◌ {A = ℕ} 0 1 = cc in absurd (omega arith)
+    go false _ z _ e = absurd (none-some l e)
     go true b true _ e =
         let same : pebble chain (t + 0) t ≡ l = cc in subst (Kept chain (2 ^ k)) same (kept (t + 0) (omega arith) (omega (arith, leb-true _ _ b)))
     go true b false z e =

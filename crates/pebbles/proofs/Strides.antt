@@ -1,5 +1,5 @@
 -- The strides of the levels are powers of two: how the levels' targets lie within 2 ^ k places, and which levels move.
-use Rattle.std.proofs.Common.{◌≡◌, ℕ, zero, suc, ◌+◌, ◌-◌, ◌*◌, ◌/◌, ◌^◌, ◌<◌, ◌≤◌, true, sym, ap, ◌∙◌, ⊎_elim, mul_assoc, mul_comm, mul-le-mul_left, mul-add, mul_left_comm, arith, pow_pos, pow_mono, pow-add}
+use Rattle.std.proofs.Common.{◌≡◌, ℕ, zero, suc, ◌+◌, ◌-◌, ◌*◌, ◌/◌, ◌^◌, ◌<◌, ◌≤◌, true, sym, ap, ◌∙◌, ⊎_elim, mul_assoc, mul_comm, mul-le-mul_left, mul-add, mul_left_comm, add-sub_of_le, le_of_lt, arith, pow_pos, pow_mono, pow-add}
 use native.Mathlib.Nat.{pow-succ', le_of_mul-le-mul_left}
 use Rattle.std.proofs.lemmas.Nat.{div-mul-add, pow_below}
 use Rattle.std.proofs.lemmas.Bool.{cases_lt}
@@ -12,10 +12,13 @@ pub even_power : (j : ℕ) → 0 < j → 2 ^ j ≡ 2 * 2 ^ (j - 1)
 even_power zero h = absurd (omega arith)
 even_power (suc j) h = let less : j ≡ suc j - 1 = omega arith in pow-succ' 2 j ∙ ap (λ x. 2 * 2 ^ x) less
 
+-- of two powers of two the larger has the larger exponent
+pub exponent_le : (a b : ℕ) → 2 ^ a ≤ 2 ^ b → a ≤ b
+exponent_le a b h = ⊎_elim (λ above. absurd (omega (arith, pow_below b a above))) (λ within. within) (cases_lt b a)
+
 -- a level with a target within the chain is one of the k levels
 pub level_within : (k j q : ℕ) → next_target (2 ^ j) q ≤ 2 ^ k → j ≤ k
-level_within k j q h =
-    ⊎_elim (λ above. absurd (omega (arith, pow_below k j above, target_stride (2 ^ j) q))) (λ within. within) (cases_lt k j)
+level_within k j q h = exponent_le j k (omega (arith, target_stride (2 ^ j) q))
 
 -- and where it has served a place already, it lies below the last two
 pub level_below : (k j q : ℕ) → 0 < q → next_target (2 ^ j) q ≤ 2 ^ k → suc j < k
@@ -30,15 +33,9 @@ stride_of_room k j q some h =
     let below : suc j < k = level_below k j q some h in
     let rest : ℕ = 2 ^ (k - suc j) in
     let split : 2 ^ k ≡ 2 ^ j * (2 * rest) =
-    ap (λ x. 2 ^ x) (add_back k (suc j) (omega arith)) ∙ pow-add 2 (suc j) (k - suc j) ∙ twice_power j rest ∙ swap (2 ^ j) rest in
+    ap (λ x. 2 ^ x) (sym (add-sub_of_le (le_of_lt below))) ∙ pow-add 2 (suc j) (k - suc j) ∙ twice_power j rest ∙ mul_left_comm 2 (2 ^ j) rest in
     let odd : 2 * q + 1 ≤ 2 * rest = le_of_mul-le-mul_left (omega arith) (pow_pos j) in
     omega (arith, mul-le-mul_left {m = 2 * q + 2} {n = 2 * rest} (2 ^ j) (omega arith), mul-add (2 ^ j) (2 * q + 1) 1)
-  where
-    add_back : (a b : ℕ) → b ≤ a → a ≡ b + (a - b)
-    add_back a b l = omega arith
-
-    swap : (p c : ℕ) → 2 * (p * c) ≡ p * (2 * c)
-    swap p c = omega (arith, mul_comm p c, mul_comm p (2 * c), mul_assoc 2 c p)
 
 -- a multiple of a power of two has at least its trailing zero bits
 pub zeros_at_least : (j v c m : ℕ) → 2 ^ j * c ≡ 2 ^ v * (2 * m + 1) → j ≤ v

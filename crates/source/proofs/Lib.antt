@@ -1,2 +1,6 @@
+pub mod DrawnCalls
+pub mod EvenPlaces
 pub mod KeysFrom
+pub mod SizeTests
+pub mod UnusedSources
 pub mod WholeRuns

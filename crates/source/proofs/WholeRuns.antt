@@ -1,21 +1,18 @@
 -- A whole run from an unused source, call by call.
-use Rattle.std.proofs.Common.{◌≡◌, ℕ, zero, suc, ◌+◌, ◌-◌, ◌^◌, ◌<◌, ◌≤◌, Ok, sym, ap, ◌∙◌, ap₂, ⊎_elim, add-one, arith}
-use Rattle.std.proofs.lemmas.Nat.{pow_below}
-use Rattle.std.proofs.lemmas.Bool.{cases_lt}
+use Rattle.std.proofs.Common.{◌≡◌, ℕ, zero, suc, ◌+◌, ◌-◌, ◌^◌, ◌<◌, ◌≤◌, Ok, sym, ap, ◌∙◌, ap₂, add-one, arith}
 use Rattle.cipher.specs.Blocks.{Make}
 use Rattle.cipher.specs.declared.key.Key.{Key}
 use Rattle.chain.specs.Chain.{down}
 use Rattle.pebbles.specs.Draws.{same, steps_after}
 use Rattle.pebbles.proofs.Runs as runs
 use Rattle.pebbles.proofs.Draws.{steps_bounded}
+use Rattle.pebbles.proofs.Strides.{exponent_le}
 use Rattle.source.specs.Sources.{Answer, Source}
 use Rattle.source.specs.Runs.{Calls, Run, Stepping, Unused}
 
 -- two powers of two are the same only where their exponents are
 same_power : (a b : ℕ) → 2 ^ a ≡ 2 ^ b → a ≡ b
-same_power a b e =
-    ⊎_elim (λ less. absurd (omega (arith, pow_below a b less)))
-    (λ least. ⊎_elim (λ less. absurd (omega (arith, pow_below b a less))) (λ most. omega arith) (cases_lt b a)) (cases_lt a b)
+same_power a b e = omega (arith, exponent_le a b (omega arith), exponent_le b a (omega arith))
 
 pub stepping : (k : ℕ) → 1 ≤ k → k ≤ 12 → Stepping k
 stepping k some most = record {

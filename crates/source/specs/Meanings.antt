@@ -24,11 +24,11 @@ stored t = record {
 -- the keys that the rule gives, over a block; the steps are those of the rule on the levels' places and targets, in room for 12 levels
 abbrev pub stepped : {B : Type 0} {b : Ghosts B} → Make → Pebbled B b → Source
 stepped make p = record {
-  key = key_from make p.levels p.bits p.given;
-  count = 2 ^ p.bits;
+  key = key_from make p.levels p.size.bits p.given;
+  count = 2 ^ p.size.bits;
   drawn = p.given;
-  due = steps_after p.bits 12 p.given;
-  least = two_at_least p.bits p.least;
-  most = few_at_most p.bits p.most;
+  due = steps_after p.size.bits 12 p.given;
+  least = two_at_least p.size.bits p.size.least;
+  most = few_at_most p.size.bits p.size.most;
   within = p.within;
 }

@@ -3,6 +3,7 @@
 #![tactic(auto)]
 
 mod key_source;
+mod limits;
 mod pebbled;
 mod table;
 

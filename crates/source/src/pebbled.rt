@@ -2,7 +2,10 @@
 ghost use Rattle.std.specs.Prelude.{◌^◌, ◌≤◌};
 ghost use Rattle.pebbles.specs.Draws.{Placed};
 ghost use Rattle.source.specs.Sources.{no_key};
+ghost use Rattle.source.specs.declared.limits.TheConstants.{LEVELS};
 
+use crate::limits::LEVELS;
+use crate::pebbled::size::ChainSize;
 use cipher::{Block, Key};
 use pebbles::Level;
 use std::marker::PhantomData;
@@ -10,16 +13,16 @@ use std::marker::PhantomData;
 pub(crate) mod draws;
 mod levels;
 mod making;
+mod size;
 
-// Level j has index j - 1; the chain has 2^bits keys. The places of the levels are known from how many keys were given.
+// Level j has index j - 1. The places of the levels are known from how many keys were given.
 #[derive(Drop)]
 pub struct Pebbled<B: Block> {
-    levels: [Level<Key>; 12],
-    bits: u32,
+    // An array with room for the largest chain, since a source has no heap.
+    levels: [Level<Key>; LEVELS],
+    size: ChainSize,
     given: u32,
     block: PhantomData<B>,
-    ghost least: { 1 ≤ bits },
-    ghost most: { bits ≤ 12 },
-    ghost within: { given ≤ 2 ^ bits },
-    ghost placed: { Placed no_key levels bits 12 given },
+    ghost within: { given ≤ 2 ^ size.bits },
+    ghost placed: { Placed no_key levels size.bits LEVELS given },
 }

@@ -6,25 +6,11 @@ ghost use Rattle.source.specs.Runs.{Run, Stepping, Unused};
 
 use crate::key_source::KeySource;
 use crate::pebbled::Pebbled;
-use crate::pebbled::levels::drawn;
 use crate::pebbled::making::unused;
+use crate::pebbled::size::ChainSize;
 use cipher::{Block, Key};
 use refusal::Refusal;
 use std::marker::PhantomData;
-
-fn unused_source<B: Block>(last: Key, bits: u32) -> Pebbled<B>
-    requires { (1 ≤ bits) × (bits ≤ 12) }
-    ensures made { Unused (stepped B.make) result B.make last bits }
-    ensures runs { Run (stepped B.make) result B.make last bits }
-    ensures steps { Stepping bits }
-{
-    Pebbled {
-        levels: unused::<B>(last, bits),
-        bits,
-        given: 0,
-        block: PhantomData,
-    }
-}
 
 impl<B: Block> Pebbled<B> {
     // The source of the 2^k keys of the chain that ends in `last`.
@@ -32,10 +18,13 @@ impl<B: Block> Pebbled<B> {
         ensures made { elim result [ Ok p ↦ Unused (stepped B.make) p B.make last k | Err e ↦ (1 ≤ k → k ≤ 12 → ⊥) × (e ≡ OutOfLimits) ] }
         ensures runs { elim result [ Ok p ↦ Run (stepped B.make) p B.make last k × Stepping k | Err _ ↦ Unit {0} ] }
     {
-        if k < 1 || k > 12 {
-            return Err(Refusal::OutOfLimits);
-        }
-        Ok(unused_source(last, k))
+        let size = ChainSize::try_from(k)?;
+        Ok(Pebbled {
+            levels: unused::<B>(last, size),
+            size,
+            given: 0,
+            block: PhantomData,
+        })
     }
 }
 
@@ -47,15 +36,13 @@ impl<B: Block> KeySource for Pebbled<B> {
     }
 
     fn count(&self) -> u32 {
-        1 << self.bits
+        self.size.keys()
     }
 
     fn next(&mut self) -> Result<(Key, u32), Refusal> {
         if self.given == self.count() {
             return Err(Refusal::NoKeyLeft);
         }
-        let (key, steps) = drawn::<B>(&mut self.levels, self.bits, self.given);
-        self.given += 1;
-        Ok((key, steps))
+        Ok(self.give())
     }
 }

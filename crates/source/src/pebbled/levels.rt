@@ -1,132 +1,118 @@
 // What a call does to the levels of a pebbled source.
-ghost use Rattle.std.specs.Prelude.{◌≡◌, ℕ, ◌+◌, ◌-◌, ◌*◌, ◌%◌, ◌^◌, ◌<◌, ◌≤◌, true, map, if◌then◌else◌, slice_index_or};
-ghost use Rattle.cipher.specs.declared.key.Key.{Key as KeyOf};
+ghost use Rattle.std.specs.Prelude.{◌≡◌, ◌+◌, ◌-◌, ◌*◌, ◌%◌, ◌^◌, ◌<◌, ◌≤◌, true, map, if◌then◌else◌, slice_index_or, All, Ok};
 ghost use Rattle.chain.specs.Chain.{step as step_of};
-ghost use Rattle.pebbles.specs.declared.level.Level.{Level as LevelOf};
-ghost use Rattle.pebbles.specs.Draws.{Placed, steps_after};
 ghost use Rattle.pebbles.specs.Levels.{Gives, call, lowered, lowering_steps, moves, zeros};
-ghost use Rattle.source.specs.Chains.{key_from};
-ghost use Rattle.source.specs.Sources.{no_key};
+ghost use Rattle.source.specs.Chains.{no_level};
+ghost use Rattle.source.specs.Meanings.{stepped};
+ghost use Rattle.source.specs.Sources.{Draw};
 
+use crate::limits::{LEVELS, MOST_KEYS};
+use crate::pebbled::Pebbled;
 use chain::step;
 use cipher::{Block, Key};
 use pebbles::Level;
 
 // A level that is above its target goes down two places; with the steps that this takes.
-fn moved<B: Block>(l: Level<Key>) -> (Level<Key>, u32)
-    requires { moves l ≡ true → 2 ≤ l.place }
-    ensures level { result.0 ≡ lowered (step_of B.make) l }
-    ensures steps { result.1 ≡ (if moves l then 2 else 0) }
+fn lower_level<B: Block>(level: &mut Level<Key>) -> u32
+    requires { moves level.old ≡ true → 2 ≤ level.old.place }
+    ensures level { level.new ≡ lowered (step_of B.make) level.old }
+    ensures steps { result ≡ (if moves level.old then 2 else 0) }
 {
-    if !l.away && l.place > l.target {
-        let key = step::<B>(step::<B>(l.key));
-        (
-            Level {
-                key,
-                place: l.place - 2,
-                target: l.target,
-                away: false,
-            },
-            2,
-        )
+    if level.is_moving() {
+        level.key = step::<B>(step::<B>(level.key));
+        level.place -= 2;
+        2
     } else {
-        (l, 0)
+        0
     }
 }
 
-fn lower<B: Block>(levels: &mut [Level<Key>; 12]) -> u32
-    requires { (j : ℕ) (d : LevelOf KeyOf) → j < 12 → moves (slice_index_or levels.old j d) ≡ true → 2 ≤ (slice_index_or levels.old j d).place }
+fn lower_levels<B: Block>(levels: &mut [Level<Key>; LEVELS]) -> u32
+    requires { All (λ l. moves l ≡ true → 2 ≤ l.place) levels.old }
     ensures levels { levels.new ≡ map (lowered (step_of B.make)) levels.old }
     ensures steps { result ≡ lowering_steps levels.old }
-    ensures few { result ≤ 24 }
+    ensures few { result ≤ 2 * LEVELS }
 {
     let mut steps = 0;
-    for j in 0..12 {
-        let (after, taken) = moved::<B>(levels[j]);
-        levels[j] = after;
-        steps += taken;
+    for level in levels.iter_mut() {
+        steps += lower_level::<B>(level);
     }
     steps
 }
 
 // The index of the level that serves an even place.
+#[tactic(auto, using(crate::proofs::EvenPlaces::zeros_of_even))]
 fn index_of(place: u32) -> usize
-    requires { (0 < place) × (place ≤ 4096) × (place % 2 ≡ 0) }
-    ensures { (result ≡ zeros place - 1) × (result < 12) }
+    requires some { 0 < place }
+    requires most { place ≤ MOST_KEYS }
+    requires even { place % 2 ≡ 0 }
+    ensures level { result ≡ zeros place - 1 }
+    ensures inside { result < LEVELS }
 {
     place.trailing_zeros() as usize - 1
 }
 
-// An odd place is served by the level of the place above it.
-fn index_above(i: u32) -> usize
-    requires { (i < 4096) × (i % 2 ≡ 1) }
-    ensures { (result ≡ zeros (i + 1) - 1) × (result < 12) }
-{
-    index_of(i + 1)
-}
-
-// The key one step below that of a level, with the steps of the whole call.
-fn below<B: Block>(l: Level<Key>, spent: u32) -> (Key, u32)
-    requires { spent ≤ 24 }
-    ensures key { result.0 ≡ step_of B.make l.key }
-    ensures steps { result.1 ≡ spent + 1 }
-{
-    (step::<B>(l.key), spent + 1)
-}
-
-// The places between those that a level serves are twice its stride.
+// The places that a level serves lie twice this apart.
+#[tactic(auto, using(crate::proofs::EvenPlaces::zeros_of_even))]
 fn stride_of(place: u32) -> u32
-    requires { (0 < place) × (place ≤ 4096) × (place % 2 ≡ 0) }
-    ensures { (result ≡ 2 ^ zeros place) × (result ≤ 4096) }
+    requires some { 0 < place }
+    requires most { place ≤ MOST_KEYS }
+    requires even { place % 2 ≡ 0 }
+    ensures power { result ≡ 2 ^ zeros place }
+    ensures most { result ≤ MOST_KEYS }
 {
     1 << place.trailing_zeros()
 }
 
-// The next target of a level that served a place, and the place where it gets a key again.
-fn refill_of(i: u32, stride: u32) -> (u32, u32)
-    requires { (i ≤ 4096) × (stride ≤ 4096) }
-    ensures target { result.0 ≡ i + 2 * stride }
-    ensures place { result.1 ≡ i + 3 * stride }
+// What an odd place gives, by one step more: the key below that of the level that serves the place above it.
+fn below<B: Block>(levels: &[Level<Key>; LEVELS], place: u32, spent: u32) -> (Key, u32)
+    requires most { place < MOST_KEYS }
+    requires odd { place % 2 ≡ 1 }
+    requires few { spent ≤ 2 * LEVELS }
+    ensures key { result.0 ≡ step_of B.make (slice_index_or levels.now (zeros (place + 1) - 1) no_level).key }
+    ensures steps { result.1 ≡ spent + 1 }
 {
-    (i + 2 * stride, i + 3 * stride)
+    let above = levels[index_of(place + 1)];
+    (step::<B>(above.key), spent + 1)
 }
 
-// The call by the rule.
-fn give<B: Block>(levels: &mut [Level<Key>; 12], bits: u32, given: u32) -> (Key, u32)
-    requires sized { (1 ≤ bits) × (bits ≤ 12) × (given < 2 ^ bits) }
-    requires placed { Placed no_key levels.old bits 12 given }
-    ensures { Gives (call (step_of B.make) (2 ^ bits) (given + 1) levels.old) result.0 result.1 levels.new }
+// What becomes of a level that served a place: it gets the key of the level that is to serve the place where it goes on.
+fn refilled(levels: &[Level<Key>; LEVELS], place: u32, stride: u32) -> Level<Key>
+    requires most { place + 3 * stride ≤ MOST_KEYS }
+    requires even { (place + 3 * stride) % 2 ≡ 0 }
+    requires some { 0 < place }
+    ensures { result ≡ record (slice_index_or levels.now (zeros (place + 3 * stride) - 1) no_level) { place = place + 3 * stride; target = place + 2 * stride } }
 {
-    let i = given + 1;
-    let spent = lower::<B>(levels);
-    if i % 2 == 1 {
-        return below::<B>(levels[index_above(i)], spent);
+    let refill = place + 3 * stride;
+    Level {
+        place: refill,
+        target: place + 2 * stride,
+        ..levels[index_of(refill)]
     }
-    let j = index_of(i);
-    let key = levels[j].key;
-    let (target, place) = refill_of(i, stride_of(i));
-    if target <= 1 << bits {
-        let source = levels[index_of(place)].key;
-        levels[j] = Level {
-            key: source,
-            place,
-            target,
-            away: false,
-        };
-    } else {
-        levels[j].away = true;
-    }
-    (key, spent)
 }
 
-// The next key, with the steps that it took; the keys after it stay as they are.
-pub(super) fn drawn<B: Block>(levels: &mut [Level<Key>; 12], bits: u32, given: u32) -> (Key, u32)
-    requires sized { (1 ≤ bits) × (bits ≤ 12) × (given < 2 ^ bits) }
-    requires placed { Placed no_key levels.old bits 12 given }
-    ensures key { result.0 ≡ key_from B.make levels.old bits given (given + 1) }
-    ensures steps { result.1 ≡ steps_after bits 12 given }
-    ensures stay { (m : ℕ) → given + 1 < m → m ≤ 2 ^ bits → key_from B.make levels.new bits (given + 1) m ≡ key_from B.make levels.old bits given m }
-    ensures placed { Placed no_key levels.new bits 12 (given + 1) }
-{
-    give::<B>(levels, bits, given)
+impl<B: Block> Pebbled<B> {
+    // The next key, with the steps that it took: the call by the rule.
+    #[tactic(auto, using(crate::specs::Sizes::few_at_most))]
+    pub(super) fn give(&mut self) -> (Key, u32)
+        requires { self.old.given < 2 ^ self.old.size.bits }
+        ensures rule { Gives (call (step_of B.make) (2 ^ self.old.size.bits) (self.old.given + 1) self.old.levels) result.0 result.1 self.new.levels }
+        ensures draw { Draw (stepped B.make) self.old (Ok result) self.new }
+    {
+        let place = self.given + 1;
+        let steps = lower_levels::<B>(&mut self.levels);
+        self.given = place;
+        if place % 2 == 1 {
+            return below::<B>(&self.levels, place, steps);
+        }
+        let served = index_of(place);
+        let key = self.levels[served].key;
+        let stride = stride_of(place);
+        if place + 2 * stride <= self.size.keys() {
+            self.levels[served] = refilled(&self.levels, place, stride);
+        } else {
+            self.levels[served].away = true;
+        }
+        (key, steps)
+    }
 }

@@ -1,26 +1,23 @@
 // How a table is made, and how keys are drawn from it.
-ghost use Rattle.std.specs.Prelude.{◌≡◌, ◌≤◌, true, false, length, Ok, Err};
+ghost use Rattle.std.specs.Prelude.{◌≡◌, ◌≤◌, ◌↔◌, IsTrue, length, Ok, Err};
 ghost use Rattle.refusal.specs.declared.Refusal.TheVariants.{OutOfLimits};
 ghost use Rattle.source.specs.Meanings.{stored};
 ghost use Rattle.source.specs.Sizes.{Size};
 
 use crate::key_source::KeySource;
+use crate::limits::MOST_KEYS;
 use crate::table::Table;
 use cipher::Key;
 use refusal::Refusal;
 
 // Whether a table can have so many keys.
+#[tactic(auto, using(crate::proofs::SizeTests::size_of_power, crate::proofs::SizeTests::power_of_size))]
 fn is_size(count: usize) -> bool
-    ensures yes { result ≡ true → Size count }
-    ensures limits { result ≡ true → (2 ≤ count) × (count ≤ 4096) }
-    ensures no { result ≡ false → Size count → ⊥ }
+    ensures size { IsTrue result ↔ Size count }
+    ensures least { IsTrue result → 2 ≤ count }
+    ensures most { IsTrue result → count ≤ MOST_KEYS }
 {
-    for k in 1u32..=12 {
-        if count == 1 << k {
-            return true;
-        }
-    }
-    false
+    count.is_power_of_two() && (2..=MOST_KEYS).contains(&count)
 }
 
 impl Table {

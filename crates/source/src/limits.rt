@@ -1,0 +1,6 @@
+// How large a source may be.
+
+// A pebbled source has room for a level for each bit of its number of keys.
+pub(crate) const LEVELS: usize = 12;
+
+pub(crate) const MOST_KEYS: usize = 1 << LEVELS;
