@@ -88,19 +88,19 @@ pub records_whole : (o : ByteOrder) (l : ℕ) (bytes : List ℕ) → Whole o l b
 records_whole o l bytes = whole_within o l bytes bytes (omega arith)
 
 -- what a reader of records has ahead, before and after it takes one
-pub takes : (before after : Records) (r : Record) → after.order ≡ before.order → after.limit ≡ before.limit → unread after ≡ drop (record_length r) (unread before) → Some r ≡ read_record before.order before.limit (unread before) → Takes before after r
-takes before after r order limit left e =
+pub takes : (before after : Records) (r : Record) → after.format ≡ before.format → unread after ≡ drop (record_length r) (unread before) → Some r ≡ read_record before.format.order before.format.limit (unread before) → Takes before after r
+takes before after r same left e =
     let read = sym e in
-    let o = before.order in
-    let l = before.limit in
+    let o = before.format.order in
+    let l = before.format.limit in
     let bytes = unread before in
     let form = read_form o l bytes r read in
     record {
-      first = records_one o l bytes r read ∙ ap (λ rs. r ∷ rs) (sym (λ i. records (order i) (limit i) (left i)));
+      first = records_one o l bytes r read ∙ ap (λ rs. r ∷ rs) (sym (λ i. records (same i).order (same i).limit (left i)));
       split = form.1 ∙ ap (λ b. record_bytes o r ++ b) (sym left);
       long = read_long o l bytes r read ∙ ap (λ b. record_length r + length b) (sym left);
       fits = form.0;
     }
 
-pub ends : (before after : Records) → unread after ≡ unread before → None ≡ read_record before.order before.limit (unread before) → Ends before after
+pub ends : (before after : Records) → unread after ≡ unread before → None ≡ read_record before.format.order before.format.limit (unread before) → Ends before after
 ends before after left e = record { none = records_none _ _ _ (sym e); same = left }

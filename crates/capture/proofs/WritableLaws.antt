@@ -12,7 +12,7 @@ use Rattle.capture.specs.declared.forms.ByteOrder.TheVariants.{Little, Big}
 use Rattle.capture.specs.Format.{Record, record_bytes, record_length, regular}
 use Rattle.capture.specs.Reading.{begins_with, onward, read_record, record_at, records, records_within, word_at, Writable}
 use Rattle.capture.proofs.FieldLaws.{length_part}
-use Rattle.capture.proofs.RecordLaws.{read_form}
+use Rattle.capture.proofs.RecordLaws.{read_at, read_form}
 use Rattle.capture.proofs.RecordsLaws.{read_long}
 
 -- a number of four bytes
@@ -24,23 +24,10 @@ word_below : (o : ByteOrder) (from : ℕ) (bytes : List ℕ) → AllByRecursion 
 word_below Little from bytes all room = from_le_four (part from 4 bytes) (length_part bytes from 4 room) (All-take Byte 4 _ (All-drop Byte from bytes all))
 word_below Big from bytes all room = from_be_below (part from 4 bytes) 4 (length_part bytes from 4 room) (All-take Byte 4 _ (All-drop Byte from bytes all))
 
--- the seconds of a record that is read
-abbrev AtStart : ByteOrder → List ℕ → Option Record → Type 0
-AtStart o bytes None = Unit {0}
-AtStart o bytes (Some r) = r.seconds ≡ word_at o 0 bytes
-
-read_seconds : (o : ByteOrder) (l : ℕ) (bytes : List ℕ) (r : Record) → read_record o l bytes ≡ Some r → r.seconds ≡ word_at o 0 bytes
-unfolding read_record
-read_seconds o l bytes r e = subst (AtStart o bytes) e (go (regular l (record_at o bytes) && begins_with (record_bytes o (record_at o bytes)) bytes))
-  where
-    go : (b : Bool) → AtStart o bytes (cond b (Some (record_at o bytes)) None)
-    go true = refl
-    go false = tt
-
 read_writable : (o : ByteOrder) (l : ℕ) (bytes : List ℕ) (r : Record) → AllByRecursion Byte bytes → read_record o l bytes ≡ Some r → Writable l r
 read_writable o l bytes r all e =
     let long = read_long o l bytes r e in
-    ((read_form o l bytes r e).0, subst (λ n. n < 2 ^ 32) (sym (read_seconds o l bytes r e)) (word_below o 0 bytes all (omega arith)))
+    ((read_form o l bytes r e).0, subst (λ x. x.seconds < 2 ^ 32) (read_at o l bytes r e) (word_below o 0 bytes all (omega arith)))
 
 onward_all : (P : Record → Type 0) (x : Option Record) (behind : ℕ → List Record) → ((r : Record) → x ≡ Some r → P r × AllByRecursion P (behind (record_length r))) → AllByRecursion P (onward x behind)
 onward_all P None behind each = tt
