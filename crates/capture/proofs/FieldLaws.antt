@@ -1,5 +1,5 @@
 -- Numbers of four bytes in either byte order: one at an offset, and four in a row.
-use Rattle.std.proofs.Common.{◌≡◌, ℕ, ◌+◌, ◌*◌, ◌^◌, ◌<◌, ◌≤◌, List, [], ◌++◌, length, get_or, take, drop, sym, ap, ◌∙◌, arith, Fits, w8}
+use Rattle.std.proofs.Common.{◌≡◌, ℕ, ◌+◌, ◌*◌, ◌^◌, ◌<◌, ◌≤◌, List, ◌++◌, length, get_or, take, drop, sym, refl, ap, ◌∙◌, arith, Fits, w8}
 use Rattle.std.specs.List.{AllByRecursion}
 use Rattle.std.proofs.lemmas.List.{append_assoc, length-take-le, length-drop, take_at, drop_at}
 use Rattle.std.proofs.Math.Seq.{take-add}
@@ -38,44 +38,60 @@ part_of bytes before x after from n e here long =
 pub next_part : (bytes done x : List ℕ) (from n : ℕ) → done ≡ take from bytes → x ≡ part from n bytes → done ++ x ≡ take (from + n) bytes
 next_part bytes done x from n d e = (λ i. d i ++ e i) ∙ sym (take-add from n bytes)
 
+-- the number that bytes write
+abbrev pub value : ByteOrder → List ℕ → ℕ
+value Little bs = from_le bs
+value Big bs = from_be bs
+
+pub word_is : (o : ByteOrder) (from : ℕ) (bytes : List ℕ) → word_at o from bytes ≡ value o (part from 4 bytes)
+word_is Little from bytes = refl
+word_is Big from bytes = refl
+
+value_number : (o : ByteOrder) (n x : ℕ) → x < 256 ^ n → value o (number o n x) ≡ x
+value_number Little n x small = from_to_le n x small
+value_number Big n x small = from_to_be n x small
+
+number_value : (o : ByteOrder) (bs : List ℕ) → AllByRecursion Byte bs → number o (length bs) (value o bs) ≡ bs
+number_value Little bs all = to_from_le bs all
+number_value Big bs all = to_from_be bs all
+
 -- a number that is written is read again
-word_of : (o : ByteOrder) (bytes before : List ℕ) (value : ℕ) (after : List ℕ) (from : ℕ) → bytes ≡ before ++ (number o 4 value ++ after) → length before ≡ from → value < 2 ^ 32 → word_at o from bytes ≡ value
-word_of Little bytes before value after from e here small =
-    ap from_le (part_of bytes before _ after from 4 e here (length_to_le 4 value)) ∙ from_to_le 4 value small
-word_of Big bytes before value after from e here small =
-    ap from_be (part_of bytes before _ after from 4 e here (length_to_be 4 value)) ∙ from_to_be 4 value small
+word_of : (o : ByteOrder) (bytes before : List ℕ) (x : ℕ) (after : List ℕ) (from : ℕ) → bytes ≡ before ++ (number o 4 x ++ after) → length before ≡ from → x < 2 ^ 32 → word_at o from bytes ≡ x
+word_of o bytes before x after from e here small =
+    word_is o from bytes ∙ ap (value o) (part_of bytes before _ after from 4 e here (length_number o 4 x)) ∙ value_number o 4 x small
 
 -- a number that is read is written as the bytes it was read from
 number_word : (o : ByteOrder) (bytes : List ℕ) (from : ℕ) → AllByRecursion Byte bytes → from + 4 ≤ length bytes → number o 4 (word_at o from bytes) ≡ part from 4 bytes
-number_word Little bytes from all room =
-    ap (λ k. number Little k (word_at Little from bytes)) (sym (length_part bytes from 4 room)) ∙ to_from_le (part from 4 bytes) (All-take Byte 4 _ (All-drop Byte from bytes all))
-number_word Big bytes from all room =
-    ap (λ k. number Big k (word_at Big from bytes)) (sym (length_part bytes from 4 room)) ∙ to_from_be (part from 4 bytes) (All-take Byte 4 _ (All-drop Byte from bytes all))
+number_word o bytes from all room =
+    (λ i. number o (sym (length_part bytes from 4 room) i) (word_is o from bytes i)) ∙ number_value o (part from 4 bytes) (All-take Byte 4 _ (All-drop Byte from bytes all))
 
 -- four numbers behind `done`
 abbrev pub words : ByteOrder → List ℕ → ℕ → ℕ → ℕ → ℕ → List ℕ
 words o done a b c d = done ++ number o 4 a ++ number o 4 b ++ number o 4 c ++ number o 4 d
 
+-- four numbers are read from an offset on, as far as they fit
 pub record Reads (o : ByteOrder) (n : ℕ) (bytes : List ℕ) (a b c d : ℕ) : Type 0 where
   pub first : a < 2 ^ 32 → word_at o n bytes ≡ a
   pub second : b < 2 ^ 32 → word_at o (n + 4) bytes ≡ b
   pub third : c < 2 ^ 32 → word_at o (n + 4 + 4) bytes ≡ c
   pub fourth : d < 2 ^ 32 → word_at o (n + 4 + 4 + 4) bytes ≡ d
 
-module _ (o : ByteOrder) (done : List ℕ) (n : ℕ) where
-  pub length_words : (a b c d : ℕ) → length done ≡ n → length (words o done a b c d) ≡ n + 4 + 4 + 4 + 4
-  length_words a b c d here =
-      let one = length_behind done (number o 4 a) n 4 here (length_number o 4 a) in
-      let two = length_behind _ (number o 4 b) _ 4 one (length_number o 4 b) in
-      let three = length_behind _ (number o 4 c) _ 4 two (length_number o 4 c) in
-      length_behind _ (number o 4 d) _ 4 three (length_number o 4 d)
+module _ (o : ByteOrder) (done : List ℕ) (n a b c d : ℕ) (here : length done ≡ n) where
+  one : length (done ++ number o 4 a) ≡ n + 4
+  one = length_behind done _ n 4 here (length_number o 4 a)
+
+  two : length (done ++ number o 4 a ++ number o 4 b) ≡ n + 4 + 4
+  two = length_behind _ _ _ 4 one (length_number o 4 b)
+
+  three : length (done ++ number o 4 a ++ number o 4 b ++ number o 4 c) ≡ n + 4 + 4 + 4
+  three = length_behind _ _ _ 4 two (length_number o 4 c)
+
+  pub length_words : length (words o done a b c d) ≡ n + 4 + 4 + 4 + 4
+  length_words = length_behind _ _ _ 4 three (length_number o 4 d)
 
   -- where they are written they are read
-  pub words_read : (bytes rest : List ℕ) (a b c d : ℕ) → length done ≡ n → bytes ≡ words o done a b c d ++ rest → Reads o n bytes a b c d
-  words_read bytes rest a b c d here e =
-      let one = length_behind done (number o 4 a) n 4 here (length_number o 4 a) in
-      let two = length_behind _ (number o 4 b) _ 4 one (length_number o 4 b) in
-      let three = length_behind _ (number o 4 c) _ 4 two (length_number o 4 c) in
+  pub words_read : (bytes rest : List ℕ) → bytes ≡ words o done a b c d ++ rest → Reads o n bytes a b c d
+  words_read bytes rest e =
       let at_d = e ∙ append_assoc _ (number o 4 d) rest in
       let at_c = at_d ∙ append_assoc _ (number o 4 c) _ in
       let at_b = at_c ∙ append_assoc _ (number o 4 b) _ in
@@ -87,18 +103,14 @@ module _ (o : ByteOrder) (done : List ℕ) (n : ℕ) where
         fourth = word_of o bytes _ d _ _ at_d three;
       }
 
-  -- where they are read they are written
-  pub words_again : (bytes : List ℕ) → AllByRecursion Byte bytes → n + 16 ≤ length bytes → done ≡ take n bytes → words o done (word_at o n bytes) (word_at o (n + 4) bytes) (word_at o (n + 4 + 4) bytes) (word_at o (n + 4 + 4 + 4) bytes) ≡ take (n + 4 + 4 + 4 + 4) bytes
-  words_again bytes all room start =
-      let one = next_part bytes done _ n 4 start (number_word o bytes n all (omega arith)) in
-      let two = next_part bytes _ _ (n + 4) 4 one (number_word o bytes (n + 4) all (omega arith)) in
-      let three = next_part bytes _ _ (n + 4 + 4) 4 two (number_word o bytes (n + 4 + 4) all (omega arith)) in
-      next_part bytes _ _ (n + 4 + 4 + 4) 4 three (number_word o bytes (n + 4 + 4 + 4) all (omega arith))
-
   -- put one after another, they come behind what fills the buffer's start so far
-  pub words_put : (a b c d : ℕ) (out s t u v w : List ℕ) → length done ≡ n → s ≡ filled done out → Puts n (number o 4 a) s t → Puts (n + 4) (number o 4 b) t u → Puts (n + 4 + 4) (number o 4 c) u v → Puts (n + 4 + 4 + 4) (number o 4 d) v w → w ≡ filled (words o done a b c d) out
-  words_put a b c d out s t u v w here start first second third fourth =
-      let one = length_behind done (number o 4 a) n 4 here (length_number o 4 a) in
-      let two = length_behind _ (number o 4 b) _ 4 one (length_number o 4 b) in
-      let three = length_behind _ (number o 4 c) _ 4 two (length_number o 4 c) in
+  pub words_put : (out s t u v w : List ℕ) → s ≡ filled done out → Puts n (number o 4 a) s t → Puts (n + 4) (number o 4 b) t u → Puts (n + 4 + 4) (number o 4 c) u v → Puts (n + 4 + 4 + 4) (number o 4 d) v w → w ≡ filled (words o done a b c d) out
+  words_put out s t u v w start first second third fourth =
       fourth _ out three (third _ out two (second _ out one (first done out here start)))
+
+-- where they are read they are written
+pub words_again : (o : ByteOrder) (done : List ℕ) (n : ℕ) (bytes : List ℕ) → AllByRecursion Byte bytes → n + 16 ≤ length bytes → done ≡ take n bytes → words o done (word_at o n bytes) (word_at o (n + 4) bytes) (word_at o (n + 4 + 4) bytes) (word_at o (n + 4 + 4 + 4) bytes) ≡ take (n + 4 + 4 + 4 + 4) bytes
+words_again o done n bytes all room start =
+    let next : (done : List ℕ) (from : ℕ) → from + 4 ≤ length bytes → done ≡ take from bytes → done ++ number o 4 (word_at o from bytes) ≡ take (from + 4) bytes =
+    λ done from room start. next_part bytes done _ from 4 start (number_word o bytes from all room) in
+    next _ (n + 4 + 4 + 4) (omega arith) (next _ (n + 4 + 4) (omega arith) (next _ (n + 4) (omega arith) (next done n (omega arith) start)))

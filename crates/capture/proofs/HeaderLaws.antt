@@ -1,5 +1,5 @@
 -- The header: its bytes, and that reading and writing are inverse.
-use Rattle.std.proofs.Common.{◌≡◌, ℕ, ◌+◌, ◌^◌, ◌<◌, ◌≤◌, Bool, true, false, List, [], ◌++◌, length, get_or, take, None, Ok, Err, Result, sym, refl, ap, ◌∙◌, subst, arith}
+use Rattle.std.proofs.Common.{◌≡◌, ℕ, ◌+◌, ◌^◌, ◌<◌, ◌≤◌, Bool, true, false, List, [], ◌++◌, length, get_or, take, Ok, Err, Result, sym, refl, ap, ◌∙◌, subst, arith}
 use Rattle.std.specs.List.{AllByRecursion}
 use Rattle.std.proofs.lemmas.List.{append_assoc, take_at}
 use Rattle.std.proofs.lemmas.Bool.{cond-true, cond-false, cond_both, false_from_ne_true, both_ways}
@@ -12,7 +12,7 @@ use Rattle.packet.proofs.LayoutLaws.{length_behind}
 use Rattle.capture.specs.declared.forms.ByteOrder.{ByteOrder}
 use Rattle.capture.specs.declared.forms.ByteOrder.TheVariants.{Little, Big}
 use Rattle.capture.specs.declared.forms.Header.{Header}
-use Rattle.capture.specs.Format.{number, marks, header_bytes}
+use Rattle.capture.specs.Format.{marks, header_bytes}
 use Rattle.capture.specs.Reading.{begins_with, header_at, read_header, HeaderForm}
 use Rattle.capture.proofs.FieldLaws.{length_number, words, length_words, words_read, words_again}
 use Rattle.capture.proofs.FrontLaws.{begins_split, begins_take, begins_from}
@@ -24,7 +24,7 @@ length_marks o =
 
 pub length_header_bytes : (h : Header) → length (header_bytes h) ≡ 24
 unfolding header_bytes
-length_header_bytes h = length_words h.order (marks h.order) 8 h.zone h.accuracy h.longest h.link (length_marks h.order)
+length_header_bytes h = length_words h.order (marks h.order) 8 _ _ _ _ (length_marks h.order)
 
 header_long : (h : Header) (bytes rest : List ℕ) → bytes ≡ header_bytes h ++ rest → length bytes ≡ 24 + length rest
 header_long h bytes rest e = ap length e ∙ length_behind (header_bytes h) rest 24 _ (length_header_bytes h) refl
@@ -73,7 +73,7 @@ stands_not o bytes no_marks = false_from_ne_true (Stands o bytes) (λ t. let bot
 header_fields : (h : Header) (rest : List ℕ) → h.zone < 2 ^ 32 → h.accuracy < 2 ^ 32 → h.longest < 2 ^ 32 → h.link < 2 ^ 32 → header_at h.order (header_bytes h ++ rest) ≡ h
 unfolding header_bytes
 header_fields h rest zone accuracy longest link =
-    let reads = words_read h.order (marks h.order) 8 (header_bytes h ++ rest) rest h.zone h.accuracy h.longest h.link (length_marks h.order) refl in
+    let reads = words_read h.order (marks h.order) 8 h.zone h.accuracy h.longest h.link (length_marks h.order) (header_bytes h ++ rest) rest refl in
     λ i. record { order = h.order; zone = reads.first zone i; accuracy = reads.second accuracy i; longest = reads.third longest i; link = reads.fourth link i }
 
 -- a header is read where its bytes stand

@@ -9,7 +9,7 @@ use Rattle.packet.specs.Reading.{part}
 use Rattle.packet.specs.Writing.{filled}
 use Rattle.packet.proofs.LayoutLaws.{length_behind}
 use Rattle.capture.specs.declared.forms.ByteOrder.{ByteOrder}
-use Rattle.capture.specs.Format.{Record, number, record_bytes, record_length, regular}
+use Rattle.capture.specs.Format.{Record, record_bytes, record_length, regular}
 use Rattle.capture.specs.Reading.{begins_with, word_at, record_at, read_record, RecordForm, Complete}
 use Rattle.capture.proofs.FieldLaws.{length_part, part_of, next_part, words, length_words, Reads, words_read, words_again}
 use Rattle.capture.proofs.FrontLaws.{begins_split, begins_take, begins_from}
@@ -19,7 +19,7 @@ abbrev pub lead : ByteOrder → Record → List ℕ
 lead o r = words o [] r.seconds r.micros (length r.bytes) (length r.bytes)
 
 pub length_lead : (o : ByteOrder) (r : Record) → length (lead o r) ≡ 16
-length_lead o r = length_words o [] 0 r.seconds r.micros (length r.bytes) (length r.bytes) refl
+length_lead o r = length_words o [] 0 r.seconds r.micros _ _ refl
 
 pub length_record_bytes : (o : ByteOrder) (r : Record) → length (record_bytes o r) ≡ record_length r
 unfolding record_bytes
@@ -32,7 +32,7 @@ module _ (o : ByteOrder) (r : Record) (bytes rest : List ℕ) (e : bytes ≡ rec
   behind_lead = e ∙ append_assoc (lead o r) r.bytes rest
 
   lead_read : Reads o 0 bytes r.seconds r.micros (length r.bytes) (length r.bytes)
-  lead_read = words_read o [] 0 bytes (r.bytes ++ rest) r.seconds r.micros (length r.bytes) (length r.bytes) refl behind_lead
+  lead_read = words_read o [] 0 r.seconds r.micros _ _ refl bytes (r.bytes ++ rest) behind_lead
 
   pub record_long : length bytes ≡ record_length r + length rest
   record_long = ap length e ∙ length_behind (record_bytes o r) rest _ _ (length_record_bytes o r) refl

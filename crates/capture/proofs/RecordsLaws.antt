@@ -33,26 +33,24 @@ within_same o l (a ∷ m) (b ∷ n) bytes p q =
     onward_same (read_record o l bytes) _ _
     (λ r e. let long = read_long o l bytes r e in within_same o l m n (drop (record_length r) bytes) (omega arith) (omega arith))
 
-none_within : (o : ByteOrder) (l : ℕ) (m bytes : List ℕ) → read_record o l bytes ≡ None → records_within m o l bytes ≡ []
-unfolding records_within
-none_within o l [] bytes e = refl
-none_within o l (b ∷ m) bytes e = ap (λ x. onward x (λ n. records_within m o l (drop n bytes))) e
-
-pub records_none : (o : ByteOrder) (l : ℕ) (bytes : List ℕ) → read_record o l bytes ≡ None → records o l bytes ≡ []
-unfolding records
-records_none o l bytes e = none_within o l bytes bytes e
-
-one_within : (o : ByteOrder) (l : ℕ) (m bytes : List ℕ) (r : Record) → length bytes ≤ length m → read_record o l bytes ≡ Some r → records_within m o l bytes ≡ r ∷ records o l (drop (record_length r) bytes)
+-- the first record, and then those behind its bytes
+onward_within : (o : ByteOrder) (l : ℕ) (m bytes : List ℕ) → length bytes ≤ length m → records_within m o l bytes ≡ onward (read_record o l bytes) (λ n. records o l (drop n bytes))
 unfolding records_within records
-one_within o l [] bytes r room e = let long = read_long o l bytes r e in absurd (omega arith)
-one_within o l (b ∷ m) bytes r room e =
-    let long = read_long o l bytes r e in
-    let rest = drop (record_length r) bytes in
-    ap (λ x. onward x (λ n. records_within m o l (drop n bytes))) e ∙ ap (λ rs. r ∷ rs) (within_same o l m rest rest (omega arith) (omega arith))
+onward_within o l [] bytes room =
+    sym (onward_none (read_record o l bytes) _ (λ r e. let long = read_long o l bytes r e in omega arith))
+onward_within o l (b ∷ m) bytes room =
+    onward_same (read_record o l bytes) _ _
+    (λ r e. let long = read_long o l bytes r e in let rest = drop (record_length r) bytes in within_same o l m rest rest (omega arith) (omega arith))
 
-pub records_one : (o : ByteOrder) (l : ℕ) (bytes : List ℕ) (r : Record) → read_record o l bytes ≡ Some r → records o l bytes ≡ r ∷ records o l (drop (record_length r) bytes)
+records_onward : (o : ByteOrder) (l : ℕ) (bytes : List ℕ) → records o l bytes ≡ onward (read_record o l bytes) (λ n. records o l (drop n bytes))
 unfolding records
-records_one o l bytes r e = one_within o l bytes bytes r (omega arith) e
+records_onward o l bytes = onward_within o l bytes bytes (omega arith)
+
+records_none : (o : ByteOrder) (l : ℕ) (bytes : List ℕ) → read_record o l bytes ≡ None → records o l bytes ≡ []
+records_none o l bytes e = records_onward o l bytes ∙ ap (λ x. onward x (λ n. records o l (drop n bytes))) e
+
+records_one : (o : ByteOrder) (l : ℕ) (bytes : List ℕ) (r : Record) → read_record o l bytes ≡ Some r → records o l bytes ≡ r ∷ records o l (drop (record_length r) bytes)
+records_one o l bytes r e = records_onward o l bytes ∙ ap (λ x. onward x (λ n. records o l (drop n bytes))) e
 
 -- what was written, one record after another, is read so
 pub records_back : (o : ByteOrder) (l : ℕ) (rs : List Record) → AllByRecursion (Writable l) rs → l < 2 ^ 32 → records o l (records_bytes o rs) ≡ rs

@@ -1,5 +1,5 @@
 -- Every record that is read can be written.
-use Rattle.std.proofs.Common.{◌≡◌, ℕ, ◌+◌, ◌^◌, ◌<◌, ◌≤◌, Bool, true, false, cond, ◌&&◌, List, [], ◌∷◌, reverse, length, drop, Some, None, Option, sym, refl, ◌∙◌, subst, arith}
+use Rattle.std.proofs.Common.{◌≡◌, ℕ, ◌+◌, ◌^◌, ◌<◌, ◌≤◌, List, [], ◌∷◌, reverse, length, drop, Some, None, Option, sym, refl, ◌∙◌, subst, arith}
 use Rattle.std.specs.List.{AllByRecursion}
 use Rattle.std.proofs.ByRecursion.{All-take, All-drop}
 use Rattle.std.proofs.lemmas.List.{length-reverse, reverse-reverse}
@@ -9,20 +9,21 @@ use Rattle.packet.specs.Reading.{part}
 use Rattle.packet.proofs.NumberLaws.{from_be_below}
 use Rattle.capture.specs.declared.forms.ByteOrder.{ByteOrder}
 use Rattle.capture.specs.declared.forms.ByteOrder.TheVariants.{Little, Big}
-use Rattle.capture.specs.Format.{Record, record_bytes, record_length, regular}
-use Rattle.capture.specs.Reading.{begins_with, onward, read_record, record_at, records, records_within, word_at, Writable}
-use Rattle.capture.proofs.FieldLaws.{length_part}
+use Rattle.capture.specs.Format.{Record, record_length}
+use Rattle.capture.specs.Reading.{onward, read_record, records, records_within, word_at, Writable}
+use Rattle.capture.proofs.FieldLaws.{length_part, value, word_is}
 use Rattle.capture.proofs.RecordLaws.{read_at, read_form}
 use Rattle.capture.proofs.RecordsLaws.{read_long}
 
 -- a number of four bytes
-from_le_four : (bs : List ℕ) → length bs ≡ 4 → AllByRecursion Byte bs → from_le bs < 2 ^ 32
+value_below : (o : ByteOrder) (bs : List ℕ) → length bs ≡ 4 → AllByRecursion Byte bs → value o bs < 2 ^ 32
 unfolding from_be
-from_le_four bs long all = subst (λ b. from_le b < 2 ^ 32) (reverse-reverse bs) (from_be_below (reverse bs) 4 (length-reverse bs ∙ long) (all_reverse bs all))
+value_below Little bs long all = subst (λ b. from_le b < 2 ^ 32) (reverse-reverse bs) (from_be_below (reverse bs) 4 (length-reverse bs ∙ long) (all_reverse bs all))
+value_below Big bs long all = from_be_below bs 4 long all
 
 word_below : (o : ByteOrder) (from : ℕ) (bytes : List ℕ) → AllByRecursion Byte bytes → from + 4 ≤ length bytes → word_at o from bytes < 2 ^ 32
-word_below Little from bytes all room = from_le_four (part from 4 bytes) (length_part bytes from 4 room) (All-take Byte 4 _ (All-drop Byte from bytes all))
-word_below Big from bytes all room = from_be_below (part from 4 bytes) 4 (length_part bytes from 4 room) (All-take Byte 4 _ (All-drop Byte from bytes all))
+word_below o from bytes all room =
+    subst (λ n. n < 2 ^ 32) (sym (word_is o from bytes)) (value_below o (part from 4 bytes) (length_part bytes from 4 room) (All-take Byte 4 _ (All-drop Byte from bytes all)))
 
 read_writable : (o : ByteOrder) (l : ℕ) (bytes : List ℕ) (r : Record) → AllByRecursion Byte bytes → read_record o l bytes ≡ Some r → Writable l r
 read_writable o l bytes r all e =

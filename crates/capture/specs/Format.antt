@@ -1,5 +1,6 @@
 -- The format of a capture: the bytes of its header and of each record, in either byte order.
-use Rattle.std.specs.Prelude.{ℕ, ◌+◌, ◌*◌, Bool, ◌&&◌, List, ◌++◌, length, nat_le, nat_lt}
+use Rattle.std.specs.Prelude.{ℕ, ◌+◌, ◌-◌, ◌*◌, Bool, ◌&&◌, List, ◌++◌, length, nat_le, nat_lt, replicate, codes}
+use Rattle.std.specs.Fmt.{decimal}
 use Rattle.std.specs.List.{flat_map}
 use Rattle.cipher.specs.Bytes.{to_le, to_be}
 use Rattle.capture.specs.declared.forms.ByteOrder.{ByteOrder}
@@ -21,6 +22,10 @@ record_said r = record { seconds = r.at.seconds; micros = r.at.micros; bytes = r
 -- a time in microseconds, and that of a record
 abbrev pub in_micros : Time → ℕ
 in_micros t = t.seconds * 1000000 + t.micros
+
+-- as it is printed: the seconds, a point, and the microseconds with zeros before them up to six digits
+abbrev pub time_text : Time → List ℕ
+time_text t = decimal t.seconds ++ (codes "." ++ (replicate (6 - length (decimal t.micros)) 48 ++ decimal t.micros))
 
 abbrev pub time : Record → ℕ
 time r = in_micros (record { seconds = r.seconds; micros = r.micros })

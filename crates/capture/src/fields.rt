@@ -15,6 +15,7 @@ pub(crate) fn put(out: &mut [u8], at: usize, part: &[u8])
 }
 
 impl ByteOrder {
+    // The number in the four bytes from an offset on.
     #[tactic(auto, using(crate::proofs::FieldLaws::four_bytes_le, packet::proofs::NumberLaws::four_bytes_read))]
     pub(crate) fn word(self, bytes: &[u8], from: usize) -> u32
         requires { from + 4 ≤ length bytes.now }
@@ -29,6 +30,7 @@ impl ByteOrder {
         }
     }
 
+    // Puts a number into the four bytes from an offset on.
     #[tactic(auto, using(cipher::proofs::ByteLaws::to_le_4, packet::proofs::NumberLaws::four_bytes_written))]
     pub(crate) fn put_word(self, out: &mut [u8], at: usize, value: u32)
         requires { at + 4 ≤ length out.old }

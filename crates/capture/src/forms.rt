@@ -37,3 +37,11 @@ pub struct RecordFormat {
     pub order: ByteOrder,
     pub limit: u32,
 }
+
+impl RecordFormat {
+    // Captures are written little-endian, with at most 256 bytes in a record.
+    pub const WRITTEN: RecordFormat = RecordFormat {
+        order: ByteOrder::Little,
+        limit: 256,
+    };
+}

@@ -55,7 +55,7 @@ impl Header {
     // The link type of packets under RC5.
     pub const RC5: u32 = 147;
 
-    // The header of a capture whose records are written so, at times without zone and of no known accuracy.
+    // The header before records of this format. It tells no zone and no accuracy.
     pub fn of_records(format: RecordFormat, link: u32) -> Header
         ensures { result ≡ header_of format.order format.limit link }
     {

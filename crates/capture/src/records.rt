@@ -5,6 +5,7 @@ ghost use Rattle.capture.specs.Reading.{records, Whole, RecordsBack};
 ghost use Rattle.capture.specs.Ahead.{unread, ahead, GivesRecord};
 
 use crate::forms::{Record, RecordFormat};
+use std::iter::FusedIterator;
 
 #[derive(Clone, Copy, PartialEq, Eq, Debug)]
 pub struct Records<'a> {
@@ -51,3 +52,5 @@ impl<'a> Iterator for Records<'a> {
         Some(first)
     }
 }
+
+impl FusedIterator for Records<'_> {}

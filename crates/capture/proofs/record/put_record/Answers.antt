@@ -11,6 +11,6 @@ returns c =
     let r = record_said c.args.heard.now in
     let o = c.args.order in
     let out = c.args.out.now in
-    let numbers = words_put o [] 0 r.seconds r.micros (length r.bytes) (length r.bytes) out _ _ _ _ _ refl (filled_none out) c.put_word.ensures c.put_word-2.ensures c.put_word-3.ensures c.put_word-4.ensures in
+    let numbers = words_put o [] 0 r.seconds r.micros (length r.bytes) (length r.bytes) refl out _ _ _ _ _ (filled_none out) c.put_word.ensures c.put_word-2.ensures c.put_word-3.ensures c.put_word-4.ensures in
     let after = c.put.ensures (lead o r) out (length_lead o r) numbers in
     record { after = after; back = λ l fit small. written_back o l r out _ fit (omega arith) small after }
