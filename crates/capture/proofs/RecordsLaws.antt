@@ -1,12 +1,13 @@
 -- The records of a capture, one after another.
-use Rattle.std.proofs.Common.{◌≡◌, ℕ, ◌+◌, ◌^◌, ◌<◌, ◌≤◌, List, [], ◌∷◌, ◌++◌, length, drop, Some, None, Option, sym, refl, ap, ◌∙◌, arith}
+use Rattle.std.proofs.Common.{◌≡◌, ℕ, ◌+◌, ◌-◌, ◌^◌, ◌<◌, ◌≤◌, List, [], ◌∷◌, ◌++◌, length, take, drop, Some, None, Option, sym, refl, ap, ◌∙◌, arith}
 use Rattle.std.specs.List.{AllByRecursion}
-use Rattle.std.proofs.lemmas.List.{append_assoc, drop_at}
+use Rattle.std.proofs.lemmas.List.{append_assoc, drop_at, take_rest}
 use Rattle.capture.specs.declared.forms.ByteOrder.{ByteOrder}
+use Rattle.capture.specs.declared.forms as forms
 use Rattle.capture.specs.declared.records.Records.{Records}
-use Rattle.capture.specs.Format.{Record, record_bytes, record_length, records_bytes}
+use Rattle.capture.specs.Format.{Record, record_said, record_bytes, record_length, records_bytes}
 use Rattle.capture.specs.Reading.{read_record, onward, records_within, records, Whole, Writable}
-use Rattle.capture.specs.Ahead.{unread, Takes, Ends}
+use Rattle.capture.specs.Ahead.{unread, GivesRecord}
 use Rattle.capture.proofs.RecordLaws.{length_record_bytes, record_long, read_form, read_record_back}
 
 -- a record that is read takes its length from what is there
@@ -85,20 +86,25 @@ whole_within o l (b ∷ m) bytes room = whole_by o l bytes (read_record o l byte
 pub records_whole : (o : ByteOrder) (l : ℕ) (bytes : List ℕ) → Whole o l bytes (records o l bytes)
 records_whole o l bytes = whole_within o l bytes bytes (omega arith)
 
--- what a reader of records has ahead, before and after it takes one
-pub takes : (before after : Records) (r : Record) → after.format ≡ before.format → unread after ≡ drop (record_length r) (unread before) → Some r ≡ read_record before.format.order before.format.limit (unread before) → Takes before after r
-takes before after r same left e =
+-- what a reader of records has ahead, before and after it gives one, or none
+pub takes : (before after : Records) (heard : forms.Record.Record) → after.format ≡ before.format → unread after ≡ take (length (unread before) - record_length (record_said heard)) (drop (record_length (record_said heard)) (unread before)) → Some (record_said heard) ≡ read_record before.format.order before.format.limit (unread before) → GivesRecord before (Some heard) after
+takes before after heard same part e =
+    let r = record_said heard in
+    let left = part ∙ take_rest (unread before) (record_length r) in
     let read = sym e in
     let o = before.format.order in
     let l = before.format.limit in
     let bytes = unread before in
     let form = read_form o l bytes r read in
     record {
-      first = records_one o l bytes r read ∙ ap (λ rs. r ∷ rs) (sym (λ i. records (same i).order (same i).limit (left i)));
-      split = form.1 ∙ ap (λ b. record_bytes o r ++ b) (sym left);
-      long = read_long o l bytes r read ∙ ap (λ b. record_length r + length b) (sym left);
-      fits = form.0;
+      taken = record {
+        first = records_one o l bytes r read ∙ ap (λ rs. r ∷ rs) (sym (λ i. records (same i).order (same i).limit (left i)));
+        split = form.1 ∙ ap (λ b. record_bytes o r ++ b) (sym left);
+        long = read_long o l bytes r read ∙ ap (λ b. record_length r + length b) (sym left);
+        fits = form.0;
+      };
+      format = same;
     }
 
-pub ends : (before after : Records) → unread after ≡ unread before → None ≡ read_record before.format.order before.format.limit (unread before) → Ends before after
-ends before after left e = record { none = records_none _ _ _ (sym e); same = left }
+pub ends : (s : Records) → None ≡ read_record s.format.order s.format.limit (unread s) → GivesRecord s None s
+ends s e = record { taken = record { none = records_none _ _ _ (sym e); same = refl }; format = refl }
