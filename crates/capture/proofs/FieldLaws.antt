@@ -1,14 +1,14 @@
 -- Numbers of four bytes in either byte order: one at an offset, and four in a row.
-use Rattle.std.proofs.Common.{◌≡◌, ℕ, ◌+◌, ◌*◌, ◌^◌, ◌<◌, ◌≤◌, List, ◌++◌, length, get_or, take, drop, sym, refl, ap, ◌∙◌, arith, Fits, w8}
+use Rattle.std.proofs.Common.{◌≡◌, ℕ, ◌+◌, ◌*◌, ◌^◌, ◌<◌, ◌≤◌, List, ◌++◌, length, get_or, take, sym, refl, ap, ◌∙◌, arith, Fits, w8}
 use Rattle.std.specs.List.{AllByRecursion}
-use Rattle.std.proofs.lemmas.List.{append_assoc, length-take-le, length-drop, take_at, drop_at}
+use Rattle.std.proofs.lemmas.Grind.{common_steps}
+use Rattle.std.proofs.lemmas.List.{append_assoc, length-append, take_at, drop_at}
 use Rattle.std.proofs.Math.Seq.{take-add}
 use Rattle.std.proofs.ByRecursion.{All-take, All-drop, All-from_get_or}
 use Rattle.cipher.specs.Bytes.{from_le, from_be}
 use Rattle.cipher.proofs.ByteLaws.{Byte, spelled, from_le_4, from_to_le, to_from_le, length_to_le, from_to_be, to_from_be, length_to_be}
 use Rattle.packet.specs.Reading.{part}
 use Rattle.packet.specs.Writing.{filled, Puts}
-use Rattle.packet.proofs.LayoutLaws.{length_behind}
 use Rattle.capture.specs.declared.forms.ByteOrder.{ByteOrder}
 use Rattle.capture.specs.declared.forms.ByteOrder.TheVariants.{Little, Big}
 use Rattle.capture.specs.Format.{number}
@@ -27,12 +27,11 @@ length_number Little n x = length_to_le n x
 length_number Big n x = length_to_be n x
 
 pub length_part : (bytes : List ℕ) (from n : ℕ) → from + n ≤ length bytes → length (part from n bytes) ≡ n
-length_part bytes from n room = let left = length-drop from bytes in length-take-le n (drop from bytes) (omega arith)
+length_part bytes from n room = grind (arith, common_steps)
 
 -- bytes that hold x behind `before`
 pub part_of : (bytes before x after : List ℕ) (from n : ℕ) → bytes ≡ before ++ (x ++ after) → length before ≡ from → length x ≡ n → part from n bytes ≡ x
-part_of bytes before x after from n e here long =
-    ap (part from n) e ∙ ap (take n) (drop_at before (x ++ after) from here) ∙ take_at x after n long
+part_of bytes before x after from n e here long = grind (arith, take_at, drop_at)
 
 -- one more part of the bytes behind their start
 pub next_part : (bytes done x : List ℕ) (from n : ℕ) → done ≡ take from bytes → x ≡ part from n bytes → done ++ x ≡ take (from + n) bytes
@@ -78,16 +77,13 @@ pub record Reads (o : ByteOrder) (n : ℕ) (bytes : List ℕ) (a b c d : ℕ) : 
 
 module _ (o : ByteOrder) (done : List ℕ) (n a b c d : ℕ) (here : length done ≡ n) where
   one : length (done ++ number o 4 a) ≡ n + 4
-  one = length_behind done _ n 4 here (length_number o 4 a)
+  one = grind (arith, length-append, length_number)
 
   two : length (done ++ number o 4 a ++ number o 4 b) ≡ n + 4 + 4
-  two = length_behind _ _ _ 4 one (length_number o 4 b)
+  two = grind (arith, length-append, length_number)
 
   three : length (done ++ number o 4 a ++ number o 4 b ++ number o 4 c) ≡ n + 4 + 4 + 4
-  three = length_behind _ _ _ 4 two (length_number o 4 c)
-
-  pub length_words : length (words o done a b c d) ≡ n + 4 + 4 + 4 + 4
-  length_words = length_behind _ _ _ 4 three (length_number o 4 d)
+  three = grind (arith, length-append, length_number)
 
   -- where they are written they are read
   pub words_read : (bytes rest : List ℕ) → bytes ≡ words o done a b c d ++ rest → Reads o n bytes a b c d

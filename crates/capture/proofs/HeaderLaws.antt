@@ -1,44 +1,40 @@
 -- The header: its bytes, and that reading and writing are inverse.
-use Rattle.std.proofs.Common.{◌≡◌, ℕ, ◌+◌, ◌^◌, ◌<◌, ◌≤◌, Bool, true, false, List, [], ◌++◌, length, get_or, take, Ok, Err, Result, sym, refl, ap, ◌∙◌, subst, arith}
+use Rattle.std.proofs.Common.{◌≡◌, ℕ, ◌+◌, ◌^◌, ◌<◌, ◌≤◌, Bool, true, false, List, ◌++◌, length, get_or, take, Ok, Err, Result, sym, refl, ap, ◌∙◌, subst, arith}
 use Rattle.std.specs.List.{AllByRecursion}
-use Rattle.std.proofs.lemmas.List.{append_assoc, take_at}
+use Rattle.std.proofs.lemmas.List.{append_assoc, length-append, take_at}
 use Rattle.std.proofs.lemmas.Bool.{cond-true, cond-false, cond_both, false_from_ne_true, both_ways}
 use Rattle.refusal.specs.declared.Refusal.{Refusal}
 use Rattle.refusal.specs.declared.Refusal.TheVariants.{NotACapture}
 use Rattle.cipher.specs.Bytes.{to_le, to_be}
 use Rattle.cipher.proofs.ByteLaws.{Byte}
 use Rattle.packet.specs.Writing.{filled}
-use Rattle.packet.proofs.LayoutLaws.{length_behind}
 use Rattle.capture.specs.declared.forms.ByteOrder.{ByteOrder}
 use Rattle.capture.specs.declared.forms.ByteOrder.TheVariants.{Little, Big}
 use Rattle.capture.specs.declared.forms.Header.{Header}
 use Rattle.capture.specs.Format.{marks, header_bytes}
 use Rattle.capture.specs.Reading.{begins_with, header_at, read_header, HeaderForm}
-use Rattle.capture.proofs.FieldLaws.{length_number, words, length_words, words_read, words_again}
+use Rattle.capture.proofs.FieldLaws.{length_number, words_read, words_again}
 use Rattle.capture.proofs.FrontLaws.{begins_split, begins_take, begins_from}
 
 pub length_marks : (o : ByteOrder) → length (marks o) ≡ 8
 unfolding marks
-length_marks o =
-    length_behind _ _ 6 2 (length_behind _ _ 4 2 (length_number o 4 _) (length_number o 2 _)) (length_number o 2 _)
+length_marks o = grind (arith, length-append, length_number)
 
 pub length_header_bytes : (h : Header) → length (header_bytes h) ≡ 24
 unfolding header_bytes
-length_header_bytes h = length_words h.order (marks h.order) 8 _ _ _ _ (length_marks h.order)
+length_header_bytes h = grind (arith, length-append, length_number, length_marks)
 
 header_long : (h : Header) (bytes rest : List ℕ) → bytes ≡ header_bytes h ++ rest → length bytes ≡ 24 + length rest
-header_long h bytes rest e = ap length e ∙ length_behind (header_bytes h) rest 24 _ (length_header_bytes h) refl
+header_long h bytes rest e = grind (arith, length-append, length_header_bytes)
 
 -- the marks of a header come first
 header_marks : (h : Header) (bytes rest : List ℕ) → bytes ≡ header_bytes h ++ rest → begins_with (marks h.order) bytes ≡ true
 unfolding header_bytes
-header_marks h bytes rest e =
-    let front : header_bytes h ++ rest ≡ marks h.order ++ (words h.order [] h.zone h.accuracy h.longest h.link ++ rest) = simp append_assoc in
-    begins_from (marks h.order) bytes _ (e ∙ front)
+header_marks h bytes rest e = grind (arith, begins_from, append_assoc)
 
 -- what begins with the marks of an order has them as its first 8 bytes
 marks_first : (o : ByteOrder) (bytes : List ℕ) → begins_with (marks o) bytes ≡ true → take 8 bytes ≡ marks o
-marks_first o bytes h = ap (take 8) (begins_split (marks o) bytes h) ∙ take_at (marks o) _ 8 (length_marks o)
+marks_first o bytes h = grind (arith, begins_split, take_at, length_marks)
 
 -- bytes that begin with the marks, and are long enough, begin with a header
 header_again : (o : ByteOrder) (bytes : List ℕ) → AllByRecursion Byte bytes → 24 ≤ length bytes → begins_with (marks o) bytes ≡ true → header_bytes (header_at o bytes) ≡ take 24 bytes
@@ -57,8 +53,7 @@ abbrev Stands : ByteOrder → List ℕ → Bool
 Stands o bytes = begins_with (header_bytes (header_at o bytes)) bytes
 
 stands_from : (o : ByteOrder) (bytes : List ℕ) → AllByRecursion Byte bytes → 24 ≤ length bytes → begins_with (marks o) bytes ≡ true → Stands o bytes ≡ true
-stands_from o bytes all room h =
-    begins_take _ bytes (ap (λ n. take n bytes) (length_header_bytes (header_at o bytes)) ∙ sym (header_again o bytes all room h))
+stands_from o bytes all room h = grind (arith, begins_take, length_header_bytes, header_again)
 
 stands_marks : (o : ByteOrder) (bytes : List ℕ) → Stands o bytes ≡ true → (24 ≤ length bytes) × (begins_with (marks o) bytes ≡ true)
 stands_marks o bytes h =
@@ -107,7 +102,7 @@ header_form bytes all =
 
 -- what is answered where the marks of an order stand, and where none do
 pub reads_marked : (o : ByteOrder) (bytes : List ℕ) (h : Header) → AllByRecursion Byte bytes → 24 ≤ length bytes → begins_with (marks o) bytes ≡ true → h ≡ header_at o bytes → Ok h ≡ read_header bytes
-reads_marked o bytes h all room t same = ap Ok same ∙ sym (found_back o bytes (stands_from o bytes all room t))
+reads_marked o bytes h all room t same = grind (arith, stands_from, found_back)
 
 pub reads_unmarked : (bytes : List ℕ) → ((o : ByteOrder) → 24 ≤ length bytes → begins_with (marks o) bytes ≡ true → ⊥) → Err NotACapture ≡ read_header bytes
 reads_unmarked bytes none =

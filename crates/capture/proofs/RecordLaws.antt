@@ -1,17 +1,17 @@
 -- One record: its bytes, and that reading and writing are inverse.
 use Rattle.std.proofs.Common.{◌≡◌, ℕ, ◌+◌, ◌-◌, ◌^◌, ◌<◌, ◌≤◌, Bool, true, ◌&&◌, List, [], ◌++◌, length, take, drop, Some, None, Option, sym, refl, ap, ◌∙◌, subst, arith}
 use Rattle.std.specs.List.{AllByRecursion}
-use Rattle.std.proofs.lemmas.List.{append_assoc}
-use Rattle.std.proofs.lemmas.Bool.{lt-ltb, ltb-true, le-leb, leb-true, and_from, and_parts, cond-true, cond-false, cond_both, false_from_ne_true, both_ways}
+use Rattle.std.proofs.lemmas.List.{append_assoc, length-append}
+use Rattle.std.proofs.lemmas.Bool.Decides.{nat_tests}
+use Rattle.std.proofs.lemmas.Bool.{and_from, and_parts, cond-true, cond-false, cond_both, false_from_ne_true, both_ways}
 use Rattle.std.proofs.lemmas.Option.{cond_some}
 use Rattle.cipher.proofs.ByteLaws.{Byte}
 use Rattle.packet.specs.Reading.{part}
 use Rattle.packet.specs.Writing.{filled}
-use Rattle.packet.proofs.LayoutLaws.{length_behind}
 use Rattle.capture.specs.declared.forms.ByteOrder.{ByteOrder}
 use Rattle.capture.specs.Format.{Record, record_bytes, record_length, regular}
 use Rattle.capture.specs.Reading.{begins_with, word_at, record_at, read_record, RecordForm, Complete}
-use Rattle.capture.proofs.FieldLaws.{length_part, part_of, next_part, words, length_words, Reads, words_read, words_again}
+use Rattle.capture.proofs.FieldLaws.{length_number, length_part, part_of, next_part, words, Reads, words_read, words_again}
 use Rattle.capture.proofs.FrontLaws.{begins_split, begins_take, begins_from}
 
 -- the numbers before what was heard
@@ -19,11 +19,11 @@ abbrev pub lead : ByteOrder → Record → List ℕ
 lead o r = words o [] r.seconds r.micros (length r.bytes) (length r.bytes)
 
 pub length_lead : (o : ByteOrder) (r : Record) → length (lead o r) ≡ 16
-length_lead o r = length_words o [] 0 r.seconds r.micros _ _ refl
+length_lead o r = grind (arith, length-append, length_number)
 
 pub length_record_bytes : (o : ByteOrder) (r : Record) → length (record_bytes o r) ≡ record_length r
 unfolding record_bytes
-length_record_bytes o r = length_behind (lead o r) _ 16 _ (length_lead o r) refl
+length_record_bytes o r = grind (arith, length-append, length_number)
 
 -- the parts of bytes that begin with those of a record
 module _ (o : ByteOrder) (r : Record) (bytes rest : List ℕ) (e : bytes ≡ record_bytes o r ++ rest) where
@@ -35,7 +35,7 @@ module _ (o : ByteOrder) (r : Record) (bytes rest : List ℕ) (e : bytes ≡ rec
   lead_read = words_read o [] 0 r.seconds r.micros _ _ refl bytes (r.bytes ++ rest) behind_lead
 
   pub record_long : length bytes ≡ record_length r + length rest
-  record_long = ap length e ∙ length_behind (record_bytes o r) rest _ _ (length_record_bytes o r) refl
+  record_long = grind (arith, length-append, length_record_bytes)
 
   record_fields : r.seconds < 2 ^ 32 → r.micros < 2 ^ 32 → length r.bytes < 2 ^ 32 → record_at o bytes ≡ r
   record_fields seconds micros small = λ i. record {
@@ -45,10 +45,10 @@ module _ (o : ByteOrder) (r : Record) (bytes rest : List ℕ) (e : bytes ≡ rec
   }
 
 pub regular_parts : (l : ℕ) (r : Record) → regular l r ≡ true → (r.micros < 1000000) × (length r.bytes ≤ l)
-regular_parts l r h = let both = and_parts _ _ h in (ltb-true _ _ both.0, leb-true _ _ both.1)
+regular_parts l r h = grind (arith, nat_tests)
 
 pub regular_from : (l : ℕ) (r : Record) → r.micros < 1000000 → length r.bytes ≤ l → regular l r ≡ true
-regular_from l r time short = and_from _ _ (lt-ltb _ _ time) (le-leb _ _ short)
+regular_from l r time short = grind (arith, nat_tests)
 
 -- whether a record stands there, as reading asks it
 abbrev Stands : ByteOrder → ℕ → List ℕ → Bool

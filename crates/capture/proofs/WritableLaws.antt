@@ -1,5 +1,5 @@
 -- Every record that is read can be written.
-use Rattle.std.proofs.Common.{◌≡◌, ℕ, ◌+◌, ◌^◌, ◌<◌, ◌≤◌, List, [], ◌∷◌, reverse, length, drop, Some, None, Option, sym, refl, ◌∙◌, subst, arith}
+use Rattle.std.proofs.Common.{◌≡◌, ℕ, ◌+◌, ◌^◌, ◌<◌, ◌≤◌, List, [], ◌∷◌, reverse, length, Some, sym, ◌∙◌, subst, arith}
 use Rattle.std.specs.List.{AllByRecursion}
 use Rattle.std.proofs.ByRecursion.{All-take, All-drop}
 use Rattle.std.proofs.lemmas.List.{length-reverse, reverse-reverse}
@@ -9,8 +9,8 @@ use Rattle.packet.specs.Reading.{part}
 use Rattle.packet.proofs.NumberLaws.{from_be_below}
 use Rattle.capture.specs.declared.forms.ByteOrder.{ByteOrder}
 use Rattle.capture.specs.declared.forms.ByteOrder.TheVariants.{Little, Big}
-use Rattle.capture.specs.Format.{Record, record_length}
-use Rattle.capture.specs.Reading.{onward, read_record, records, records_within, word_at, Writable}
+use Rattle.capture.specs.Format.{Record}
+use Rattle.capture.specs.Reading.{read_record, records, records_within, word_at, Writable}
 use Rattle.capture.proofs.FieldLaws.{length_part, value, word_is}
 use Rattle.capture.proofs.RecordLaws.{read_at, read_form}
 use Rattle.capture.proofs.RecordsLaws.{read_long}
@@ -30,15 +30,10 @@ read_writable o l bytes r all e =
     let long = read_long o l bytes r e in
     ((read_form o l bytes r e).0, subst (λ x. x.seconds < 2 ^ 32) (read_at o l bytes r e) (word_below o 0 bytes all (omega arith)))
 
-onward_all : (P : Record → Type 0) (x : Option Record) (behind : ℕ → List Record) → ((r : Record) → x ≡ Some r → P r × AllByRecursion P (behind (record_length r))) → AllByRecursion P (onward x behind)
-onward_all P None behind each = tt
-onward_all P (Some r) behind each = each r refl
-
 writable_within : (o : ByteOrder) (l : ℕ) (m bytes : List ℕ) → AllByRecursion Byte bytes → AllByRecursion (Writable l) (records_within m o l bytes)
 unfolding records_within
 writable_within o l [] bytes all = tt
-writable_within o l (b ∷ m) bytes all =
-    onward_all (Writable l) (read_record o l bytes) _ (λ r e. (read_writable o l bytes r all e, writable_within o l m (drop (record_length r) bytes) (All-drop Byte (record_length r) bytes all)))
+writable_within o l (b ∷ m) bytes all = grind (arith, read_writable, writable_within o l m, All-drop)
 
 pub records_writable : (o : ByteOrder) (l : ℕ) (bytes : List ℕ) → AllByRecursion Byte bytes → AllByRecursion (Writable l) (records o l bytes)
 unfolding records

@@ -21,16 +21,17 @@ pub record Takes (before after : Records) (r : Record) : Type 0 where
   pub long : length (unread before) ≡ record_length r + length (unread after)
   pub fits : regular before.format.limit r ≡ true
 
--- none was ahead, and what is unread stays
+-- none was ahead, none is, and what is unread stays
 pub record Ends (before after : Records) : Type 0 where
   pub none : ahead before ≡ []
+  pub still : ahead after ≡ []
   pub same : unread after ≡ unread before
 
 abbrev pub Taken : Records → Records → Option Record → Type 0
 Taken before after (Some r) = Takes before after r
 Taken before after None = Ends before after
 
--- what `next` gives: a record taken, in the same format as before
+-- what `next` gives and leaves: the first record ahead is taken off, and the format stays
 pub record GivesRecord (before : Records) (given : Option forms.Record.Record) (after : Records) : Type 0 where
   pub taken : Taken before after (option_map record_said given)
   pub format : after.format ≡ before.format

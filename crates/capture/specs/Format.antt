@@ -23,12 +23,12 @@ record_said r = record { seconds = r.at.seconds; micros = r.at.micros; bytes = r
 abbrev pub in_micros : Time → ℕ
 in_micros t = t.seconds * 1000000 + t.micros
 
--- as it is printed: the seconds, a point, and the microseconds with zeros before them up to six digits
-abbrev pub time_text : Time → List ℕ
-time_text t = decimal t.seconds ++ (codes "." ++ (replicate (6 - length (decimal t.micros)) 48 ++ decimal t.micros))
-
 abbrev pub time : Record → ℕ
 time r = in_micros (record { seconds = r.seconds; micros = r.micros })
+
+-- a time as it is printed: the seconds, a point, and the microseconds with zeros before them up to six digits
+abbrev pub time_text : Time → List ℕ
+time_text t = decimal t.seconds ++ (codes "." ++ (replicate (6 - length (decimal t.micros)) 48 ++ decimal t.micros))
 
 -- a number in n bytes
 abbrev pub number : ByteOrder → ℕ → ℕ → List ℕ
@@ -39,7 +39,7 @@ number Big n x = to_be n x
 unfoldable pub marks : ByteOrder → List ℕ
 marks order = number order 4 0xa1b2c3d4 ++ number order 2 2 ++ number order 2 4
 
--- of a capture with records in this order and of at most `limit` bytes: no zone, and no accuracy
+-- the header before records in this order and of at most `limit` bytes: no zone, and no accuracy
 abbrev pub header_of : ByteOrder → ℕ → ℕ → Header
 header_of order limit link = record { order = order; zone = 0; accuracy = 0; longest = limit; link = link }
 
