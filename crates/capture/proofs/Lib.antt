@@ -5,3 +5,4 @@ pub mod RecordLaws
 pub mod RecordsLaws
 pub mod CaptureLaws
 pub mod WritableLaws
+pub mod TimeLaws

@@ -1,58 +1,39 @@
 -- The records of a capture, one after another.
-use Rattle.std.proofs.Common.{◌≡◌, ℕ, ◌+◌, ◌^◌, ◌<◌, ◌≤◌, List, [], ◌∷◌, ◌++◌, length, drop, Some, None, Option, sym, refl, ap, ◌∙◌, arith}
+use Rattle.std.proofs.Common.{◌≡◌, ℕ, ◌+◌, ◌-◌, ◌^◌, ◌<◌, ◌≤◌, List, [], ◌∷◌, ◌++◌, length, take, drop, Some, None, Option, sym, refl, ap, ◌∙◌, arith}
 use Rattle.std.specs.List.{AllByRecursion}
-use Rattle.std.proofs.lemmas.List.{append_assoc, drop_at}
+use Rattle.std.proofs.lemmas.Grind.{common_steps}
+use Rattle.std.proofs.lemmas.List.{append_assoc, drop_at, take_rest}
 use Rattle.capture.specs.declared.forms.ByteOrder.{ByteOrder}
+use Rattle.capture.specs.declared.forms as forms
 use Rattle.capture.specs.declared.records.Records.{Records}
-use Rattle.capture.specs.Format.{Record, record_bytes, record_length, records_bytes}
+use Rattle.capture.specs.Format.{Record, record_said, record_bytes, record_length, records_bytes}
 use Rattle.capture.specs.Reading.{read_record, onward, records_within, records, Whole, Writable}
-use Rattle.capture.specs.Ahead.{unread, Takes, Ends}
+use Rattle.capture.specs.Ahead.{unread, GivesRecord}
 use Rattle.capture.proofs.RecordLaws.{length_record_bytes, record_long, read_form, read_record_back}
 
 -- a record that is read takes its length from what is there
 pub read_long : (o : ByteOrder) (l : ℕ) (bytes : List ℕ) (r : Record) → read_record o l bytes ≡ Some r → length bytes ≡ record_length r + length (drop (record_length r) bytes)
 read_long o l bytes r e = record_long o r bytes _ (read_form o l bytes r e).1
 
-onward_none : (x : Option Record) (behind : ℕ → List Record) → ((r : Record) → x ≡ Some r → ⊥) → onward x behind ≡ []
-onward_none None behind none = refl
-onward_none (Some r) behind none = absurd (none r refl)
-
-onward_same : (x : Option Record) (f g : ℕ → List Record) → ((r : Record) → x ≡ Some r → f (record_length r) ≡ g (record_length r)) → onward x f ≡ onward x g
-onward_same None f g same = refl
-onward_same (Some r) f g same = ap (λ rs. r ∷ rs) (same r refl)
-
 -- any bound that is large enough gives the same records
 within_same : (o : ByteOrder) (l : ℕ) (m n bytes : List ℕ) → length bytes ≤ length m → length bytes ≤ length n → records_within m o l bytes ≡ records_within n o l bytes
 unfolding records_within
 within_same o l [] [] bytes p q = refl
-within_same o l [] (b ∷ n) bytes p q =
-    sym (onward_none (read_record o l bytes) _ (λ r e. let long = read_long o l bytes r e in omega arith))
-within_same o l (a ∷ m) [] bytes p q =
-    onward_none (read_record o l bytes) _ (λ r e. let long = read_long o l bytes r e in omega arith)
-within_same o l (a ∷ m) (b ∷ n) bytes p q =
-    onward_same (read_record o l bytes) _ _
-    (λ r e. let long = read_long o l bytes r e in within_same o l m n (drop (record_length r) bytes) (omega arith) (omega arith))
+within_same o l [] (b ∷ n) bytes p q = grind (arith, read_long)
+within_same o l (a ∷ m) [] bytes p q = grind (arith, read_long)
+within_same o l (a ∷ m) (b ∷ n) bytes p q = grind (arith, read_long, within_same o l m n)
 
-none_within : (o : ByteOrder) (l : ℕ) (m bytes : List ℕ) → read_record o l bytes ≡ None → records_within m o l bytes ≡ []
-unfolding records_within
-none_within o l [] bytes e = refl
-none_within o l (b ∷ m) bytes e = ap (λ x. onward x (λ n. records_within m o l (drop n bytes))) e
+-- the first record, and then those behind its bytes
+records_onward : (o : ByteOrder) (l : ℕ) (bytes : List ℕ) → records o l bytes ≡ onward (read_record o l bytes) (λ n. records o l (drop n bytes))
+unfolding records records_within
+records_onward o l [] = grind (arith, read_long o l [])
+records_onward o l (b ∷ bytes) = grind (arith, read_long o l (b ∷ bytes), within_same)
 
-pub records_none : (o : ByteOrder) (l : ℕ) (bytes : List ℕ) → read_record o l bytes ≡ None → records o l bytes ≡ []
-unfolding records
-records_none o l bytes e = none_within o l bytes bytes e
+records_none : (o : ByteOrder) (l : ℕ) (bytes : List ℕ) → read_record o l bytes ≡ None → records o l bytes ≡ []
+records_none o l bytes e = grind (arith, records_onward)
 
-one_within : (o : ByteOrder) (l : ℕ) (m bytes : List ℕ) (r : Record) → length bytes ≤ length m → read_record o l bytes ≡ Some r → records_within m o l bytes ≡ r ∷ records o l (drop (record_length r) bytes)
-unfolding records_within records
-one_within o l [] bytes r room e = let long = read_long o l bytes r e in absurd (omega arith)
-one_within o l (b ∷ m) bytes r room e =
-    let long = read_long o l bytes r e in
-    let rest = drop (record_length r) bytes in
-    ap (λ x. onward x (λ n. records_within m o l (drop n bytes))) e ∙ ap (λ rs. r ∷ rs) (within_same o l m rest rest (omega arith) (omega arith))
-
-pub records_one : (o : ByteOrder) (l : ℕ) (bytes : List ℕ) (r : Record) → read_record o l bytes ≡ Some r → records o l bytes ≡ r ∷ records o l (drop (record_length r) bytes)
-unfolding records
-records_one o l bytes r e = one_within o l bytes bytes r (omega arith) e
+records_one : (o : ByteOrder) (l : ℕ) (bytes : List ℕ) (r : Record) → read_record o l bytes ≡ Some r → records o l bytes ≡ r ∷ records o l (drop (record_length r) bytes)
+records_one o l bytes r e = grind (arith, records_onward)
 
 -- what was written, one record after another, is read so
 pub records_back : (o : ByteOrder) (l : ℕ) (rs : List Record) → AllByRecursion (Writable l) rs → l < 2 ^ 32 → records o l (records_bytes o rs) ≡ rs
@@ -60,47 +41,47 @@ unfolding records records_within
 records_back o l [] fit small = refl
 records_back o l (r ∷ rs) fit small =
     let first = read_record_back o l r (records_bytes o rs) fit.0.0 fit.0.1 small in
-    records_one o l _ r first ∙ ap (λ bytes. r ∷ records o l bytes) (drop_at (record_bytes o r) (records_bytes o rs) _ (length_record_bytes o r)) ∙ ap (λ xs. r ∷ xs) (records_back o l rs fit.1 small)
-
-abbrev ReadWhole : ByteOrder → ℕ → List ℕ → Type 0
-ReadWhole o l bytes = Whole o l bytes (records o l bytes)
+    let behind = drop_at (record_bytes o r) (records_bytes o rs) _ (length_record_bytes o r) in
+    let others = records_back o l rs fit.1 small in
+    grind (arith, records_one)
 
 -- what is left behind the first record, read on
-whole_one : (o : ByteOrder) (l : ℕ) (bytes : List ℕ) (r : Record) → read_record o l bytes ≡ Some r → ReadWhole o l (drop (record_length r) bytes) → ReadWhole o l bytes
-whole_one o l bytes r e w = record {
-  rest = w.rest;
-  split = (read_form o l bytes r e).1 ∙ ap (λ b. record_bytes o r ++ b) w.split ∙ sym (append_assoc (record_bytes o r) _ _) ∙ ap (λ rs. records_bytes o rs ++ w.rest) (sym (records_one o l bytes r e));
-  ends = w.ends;
-}
+whole_by : (o : ByteOrder) (l : ℕ) (bytes : List ℕ) (x : Option Record) → read_record o l bytes ≡ x → ((r : Record) → x ≡ Some r → Whole o l (drop (record_length r) bytes) (records o l (drop (record_length r) bytes))) → Whole o l bytes (records o l bytes)
+whole_by o l bytes None e onwards = let none = records_none o l bytes e in record { rest = bytes; split = grind (arith, common_steps); ends = e }
+whole_by o l bytes (Some r) e onwards =
+    let w = onwards r refl in
+    let form = read_form o l bytes r e in
+    let one = records_one o l bytes r e in
+    record { rest = w.rest; split = grind (arith, common_steps, append_assoc); ends = w.ends }
 
-whole_none : (o : ByteOrder) (l : ℕ) (bytes : List ℕ) → read_record o l bytes ≡ None → ReadWhole o l bytes
-whole_none o l bytes e = record { rest = bytes; split = ap (λ rs. records_bytes o rs ++ bytes) (sym (records_none o l bytes e)); ends = e }
-
-whole_by : (o : ByteOrder) (l : ℕ) (bytes : List ℕ) (x : Option Record) → read_record o l bytes ≡ x → ((r : Record) → x ≡ Some r → ReadWhole o l (drop (record_length r) bytes)) → ReadWhole o l bytes
-whole_by o l bytes None e onwards = whole_none o l bytes e
-whole_by o l bytes (Some r) e onwards = whole_one o l bytes r e (onwards r refl)
-
-whole_within : (o : ByteOrder) (l : ℕ) (m bytes : List ℕ) → length bytes ≤ length m → ReadWhole o l bytes
+whole_within : (o : ByteOrder) (l : ℕ) (m bytes : List ℕ) → length bytes ≤ length m → Whole o l bytes (records o l bytes)
 whole_within o l [] bytes room = whole_by o l bytes (read_record o l bytes) refl (λ r e. let long = read_long o l bytes r e in absurd (omega arith))
-whole_within o l (b ∷ m) bytes room = whole_by o l bytes (read_record o l bytes) refl (λ r e. let long = read_long o l bytes r e in whole_within o l m (drop (record_length r) bytes) (omega arith))
+whole_within o l (b ∷ m) bytes room = whole_by o l bytes (read_record o l bytes) refl (λ r e. let long = read_long o l bytes r e in whole_within o l m _ (omega arith))
 
 pub records_whole : (o : ByteOrder) (l : ℕ) (bytes : List ℕ) → Whole o l bytes (records o l bytes)
 records_whole o l bytes = whole_within o l bytes bytes (omega arith)
 
--- what a reader of records has ahead, before and after it takes one
-pub takes : (before after : Records) (r : Record) → after.order ≡ before.order → after.limit ≡ before.limit → unread after ≡ drop (record_length r) (unread before) → Some r ≡ read_record before.order before.limit (unread before) → Takes before after r
-takes before after r order limit left e =
+-- what a reader of records has ahead, before and after it gives one, or none
+pub takes : (before after : Records) (heard : forms.Record.Record) → after.format ≡ before.format → unread after ≡ take (length (unread before) - record_length (record_said heard)) (drop (record_length (record_said heard)) (unread before)) → Some (record_said heard) ≡ read_record before.format.order before.format.limit (unread before) → GivesRecord before (Some heard) after
+takes before after heard same part e =
+    let r = record_said heard in
+    let left = part ∙ take_rest (unread before) (record_length r) in
     let read = sym e in
-    let o = before.order in
-    let l = before.limit in
+    let o = before.format.order in
+    let l = before.format.limit in
     let bytes = unread before in
     let form = read_form o l bytes r read in
     record {
-      first = records_one o l bytes r read ∙ ap (λ rs. r ∷ rs) (sym (λ i. records (order i) (limit i) (left i)));
-      split = form.1 ∙ ap (λ b. record_bytes o r ++ b) (sym left);
-      long = read_long o l bytes r read ∙ ap (λ b. record_length r + length b) (sym left);
-      fits = form.0;
+      taken = record {
+        first = records_one o l bytes r read ∙ ap (λ rs. r ∷ rs) (sym (λ i. records (same i).order (same i).limit (left i)));
+        split = form.1 ∙ ap (λ b. record_bytes o r ++ b) (sym left);
+        long = read_long o l bytes r read ∙ ap (λ b. record_length r + length b) (sym left);
+        fits = form.0;
+      };
+      format = same;
     }
 
-pub ends : (before after : Records) → unread after ≡ unread before → None ≡ read_record before.order before.limit (unread before) → Ends before after
-ends before after left e = record { none = records_none _ _ _ (sym e); same = left }
+pub ends : (s : Records) → None ≡ read_record s.format.order s.format.limit (unread s) → GivesRecord s None s
+ends s e =
+    let none = records_none _ _ _ (sym e) in
+    record { taken = record { none = none; still = none; same = refl }; format = refl }

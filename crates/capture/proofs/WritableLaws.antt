@@ -1,5 +1,5 @@
 -- Every record that is read can be written.
-use Rattle.std.proofs.Common.{◌≡◌, ℕ, ◌+◌, ◌^◌, ◌<◌, ◌≤◌, Bool, true, false, cond, ◌&&◌, List, [], ◌∷◌, reverse, length, drop, Some, None, Option, sym, refl, ◌∙◌, subst, arith}
+use Rattle.std.proofs.Common.{◌≡◌, ℕ, ◌+◌, ◌^◌, ◌<◌, ◌≤◌, List, [], ◌∷◌, reverse, length, Some, sym, ◌∙◌, subst, arith}
 use Rattle.std.specs.List.{AllByRecursion}
 use Rattle.std.proofs.ByRecursion.{All-take, All-drop}
 use Rattle.std.proofs.lemmas.List.{length-reverse, reverse-reverse}
@@ -9,48 +9,31 @@ use Rattle.packet.specs.Reading.{part}
 use Rattle.packet.proofs.NumberLaws.{from_be_below}
 use Rattle.capture.specs.declared.forms.ByteOrder.{ByteOrder}
 use Rattle.capture.specs.declared.forms.ByteOrder.TheVariants.{Little, Big}
-use Rattle.capture.specs.Format.{Record, record_bytes, record_length, regular}
-use Rattle.capture.specs.Reading.{begins_with, onward, read_record, record_at, records, records_within, word_at, Writable}
-use Rattle.capture.proofs.FieldLaws.{length_part}
-use Rattle.capture.proofs.RecordLaws.{read_form}
+use Rattle.capture.specs.Format.{Record}
+use Rattle.capture.specs.Reading.{read_record, records, records_within, word_at, Writable}
+use Rattle.capture.proofs.FieldLaws.{length_part, value, word_is}
+use Rattle.capture.proofs.RecordLaws.{read_at, read_form}
 use Rattle.capture.proofs.RecordsLaws.{read_long}
 
 -- a number of four bytes
-from_le_four : (bs : List ℕ) → length bs ≡ 4 → AllByRecursion Byte bs → from_le bs < 2 ^ 32
+value_below : (o : ByteOrder) (bs : List ℕ) → length bs ≡ 4 → AllByRecursion Byte bs → value o bs < 2 ^ 32
 unfolding from_be
-from_le_four bs long all = subst (λ b. from_le b < 2 ^ 32) (reverse-reverse bs) (from_be_below (reverse bs) 4 (length-reverse bs ∙ long) (all_reverse bs all))
+value_below Little bs long all = subst (λ b. from_le b < 2 ^ 32) (reverse-reverse bs) (from_be_below (reverse bs) 4 (length-reverse bs ∙ long) (all_reverse bs all))
+value_below Big bs long all = from_be_below bs 4 long all
 
 word_below : (o : ByteOrder) (from : ℕ) (bytes : List ℕ) → AllByRecursion Byte bytes → from + 4 ≤ length bytes → word_at o from bytes < 2 ^ 32
-word_below Little from bytes all room = from_le_four (part from 4 bytes) (length_part bytes from 4 room) (All-take Byte 4 _ (All-drop Byte from bytes all))
-word_below Big from bytes all room = from_be_below (part from 4 bytes) 4 (length_part bytes from 4 room) (All-take Byte 4 _ (All-drop Byte from bytes all))
-
--- the seconds of a record that is read
-abbrev AtStart : ByteOrder → List ℕ → Option Record → Type 0
-AtStart o bytes None = Unit {0}
-AtStart o bytes (Some r) = r.seconds ≡ word_at o 0 bytes
-
-read_seconds : (o : ByteOrder) (l : ℕ) (bytes : List ℕ) (r : Record) → read_record o l bytes ≡ Some r → r.seconds ≡ word_at o 0 bytes
-unfolding read_record
-read_seconds o l bytes r e = subst (AtStart o bytes) e (go (regular l (record_at o bytes) && begins_with (record_bytes o (record_at o bytes)) bytes))
-  where
-    go : (b : Bool) → AtStart o bytes (cond b (Some (record_at o bytes)) None)
-    go true = refl
-    go false = tt
+word_below o from bytes all room =
+    subst (λ n. n < 2 ^ 32) (sym (word_is o from bytes)) (value_below o (part from 4 bytes) (length_part bytes from 4 room) (All-take Byte 4 _ (All-drop Byte from bytes all)))
 
 read_writable : (o : ByteOrder) (l : ℕ) (bytes : List ℕ) (r : Record) → AllByRecursion Byte bytes → read_record o l bytes ≡ Some r → Writable l r
 read_writable o l bytes r all e =
     let long = read_long o l bytes r e in
-    ((read_form o l bytes r e).0, subst (λ n. n < 2 ^ 32) (sym (read_seconds o l bytes r e)) (word_below o 0 bytes all (omega arith)))
-
-onward_all : (P : Record → Type 0) (x : Option Record) (behind : ℕ → List Record) → ((r : Record) → x ≡ Some r → P r × AllByRecursion P (behind (record_length r))) → AllByRecursion P (onward x behind)
-onward_all P None behind each = tt
-onward_all P (Some r) behind each = each r refl
+    ((read_form o l bytes r e).0, subst (λ x. x.seconds < 2 ^ 32) (read_at o l bytes r e) (word_below o 0 bytes all (omega arith)))
 
 writable_within : (o : ByteOrder) (l : ℕ) (m bytes : List ℕ) → AllByRecursion Byte bytes → AllByRecursion (Writable l) (records_within m o l bytes)
 unfolding records_within
 writable_within o l [] bytes all = tt
-writable_within o l (b ∷ m) bytes all =
-    onward_all (Writable l) (read_record o l bytes) _ (λ r e. (read_writable o l bytes r all e, writable_within o l m (drop (record_length r) bytes) (All-drop Byte (record_length r) bytes all)))
+writable_within o l (b ∷ m) bytes all = grind (arith, read_writable, writable_within o l m, All-drop)
 
 pub records_writable : (o : ByteOrder) (l : ℕ) (bytes : List ℕ) → AllByRecursion Byte bytes → AllByRecursion (Writable l) (records o l bytes)
 unfolding records

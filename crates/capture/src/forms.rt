@@ -1,14 +1,14 @@
 // What a capture says: its header, and each record with the time at which it was heard.
 
 // The order of the bytes in every number of a capture.
-#[derive(Clone, Copy)]
+#[derive(Clone, Copy, PartialEq, Eq, Debug)]
 pub enum ByteOrder {
     Little,
     Big,
 }
 
 // Zone, accuracy and longest record are only told; the link type says what the records carry.
-#[derive(Clone, Copy)]
+#[derive(Clone, Copy, PartialEq, Eq, Debug)]
 pub struct Header {
     pub order: ByteOrder,
     pub zone: u32,
@@ -17,10 +17,31 @@ pub struct Header {
     pub link: u32,
 }
 
-// What was heard at a time; a time has seconds and microseconds.
-#[derive(Clone, Copy)]
-pub struct Record<'a> {
+// Seconds, and the microseconds behind them.
+#[derive(Clone, Copy, PartialEq, Eq, Debug)]
+pub struct Time {
     pub seconds: u32,
     pub micros: u32,
+}
+
+// What was heard, and when.
+#[derive(Clone, Copy, PartialEq, Eq, Debug)]
+pub struct Record<'a> {
+    pub at: Time,
     pub bytes: &'a [u8],
+}
+
+// How the records of a capture are written: the order of their bytes, and the most bytes of each.
+#[derive(Clone, Copy, PartialEq, Eq, Debug)]
+pub struct RecordFormat {
+    pub order: ByteOrder,
+    pub limit: u32,
+}
+
+impl RecordFormat {
+    // Captures are written little-endian, with at most 256 bytes in a record.
+    pub const WRITTEN: RecordFormat = RecordFormat {
+        order: ByteOrder::Little,
+        limit: 256,
+    };
 }

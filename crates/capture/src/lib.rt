@@ -7,6 +7,7 @@ mod forms;
 mod header;
 mod record;
 mod records;
+mod time;
 
-pub use forms::{ByteOrder, Header, Record};
+pub use forms::{ByteOrder, Header, Record, RecordFormat, Time};
 pub use records::Records;

@@ -1,45 +1,32 @@
 // The records of a capture, read one after another.
 ghost use Rattle.std.specs.Prelude.{◌≡◌, length};
-ghost use Rattle.std.specs.Option.{option_map};
-ghost use Rattle.capture.specs.Format.{record_said};
+ghost use Rattle.std.specs.Iterator.{at_most};
 ghost use Rattle.capture.specs.Reading.{records, Whole, RecordsBack};
-ghost use Rattle.capture.specs.Ahead.{unread, ahead, Taken};
+ghost use Rattle.capture.specs.Ahead.{unread, ahead, GivesRecord};
 
-use crate::forms::{ByteOrder, Record};
+use crate::forms::{Record, RecordFormat};
+use std::iter::FusedIterator;
 
-#[derive(Clone, Copy)]
+#[derive(Clone, Copy, PartialEq, Eq, Debug)]
 pub struct Records<'a> {
-    order: ByteOrder,
-    limit: u32,
+    format: RecordFormat,
     rest: &'a [u8],
 }
 
 impl<'a> Records<'a> {
-    // The records behind a header, in its byte order, each of at most `limit` bytes.
-    pub fn new(order: ByteOrder, limit: u32, bytes: &'a [u8]) -> Records<'a>
+    // The records behind a header.
+    #[tactic(auto, using(crate::proofs::RecordsLaws::records_whole, crate::proofs::RecordsLaws::records_back))]
+    pub fn new(format: RecordFormat, bytes: &'a [u8]) -> Records<'a>
         ensures bytes { unread result ≡ bytes.now }
-        ensures records { ahead result ≡ records order limit bytes.now }
-        ensures whole { Whole order limit bytes.now (ahead result) }
-        ensures back { RecordsBack order limit bytes.now (ahead result) }
-        ensures order { result.order ≡ order }
-        ensures limit { result.limit ≡ limit }
+        ensures records { ahead result ≡ records format.order format.limit bytes.now }
+        ensures whole { Whole format.order format.limit bytes.now (ahead result) }
+        ensures back { RecordsBack format.order format.limit bytes.now (ahead result) }
+        ensures format { result.format ≡ format }
     {
         Records {
-            order,
-            limit,
+            format,
             rest: bytes,
         }
-    }
-
-    // The first record ahead; none where no regular record stands there, and then none is ever answered.
-    pub fn next(&mut self) -> Option<Record<'a>>
-        ensures taken { Taken self.old self.new (option_map record_said result) }
-        ensures order { self.new.order ≡ self.old.order }
-        ensures limit { self.new.limit ≡ self.old.limit }
-    {
-        let first = Record::read(self.order, self.limit, self.rest)?;
-        self.rest = &self.rest[Record::LEAD + first.bytes.len()..];
-        Some(first)
     }
 
     // How many bytes are still unread.
@@ -49,3 +36,21 @@ impl<'a> Records<'a> {
         self.rest.len()
     }
 }
+
+impl<'a> Iterator for Records<'a> {
+    type Item = Record<'a>;
+
+    ghost next_gives = { GivesRecord };
+
+    ghost remaining = { λ s. at_most (length (unread s)) };
+
+    // The first record ahead; none where no regular record stands there, and then none is ever answered.
+    #[tactic(auto, using(crate::proofs::RecordsLaws::ends))]
+    fn next(&mut self) -> Option<Record<'a>> {
+        let first = Record::read(self.format, self.rest)?;
+        self.rest = &self.rest[Record::LEAD + first.bytes.len()..];
+        Some(first)
+    }
+}
+
+impl FusedIterator for Records<'_> {}
