@@ -1,5 +1,5 @@
 -- What a release of the code comes to.
-use Rattle.std.proofs.Common.{◌≡◌, ℕ, ◌≤◌, List, ◌∷◌, length, take, Some, None, Ok, Err, Option, Result, sym, refl, ap, ◌∙◌, subst, arith, length-take}
+use Rattle.std.proofs.Common.{◌≡◌, ℕ, List, ◌∷◌, length, Some, None, Ok, Err, Option, Result, sym, refl, ap, ◌∙◌, subst}
 use Rattle.std.specs.Result.{IsOk}
 use Rattle.refusal.specs.declared.Refusal.{Refusal}
 use Rattle.cipher.specs.Blocks.{Make}
@@ -8,7 +8,7 @@ use Rattle.link.specs.Receiver.{Receiver, to_release, answer, then, none, after 
 use Rattle.node.specs.Answers.{release_length, release_says, released_says, written}
 use Rattle.node.specs.declared.released.Released.{Released}
 use Rattle.playback.specs.Parts.{receiving, until_none}
-use Rattle.playback.specs.Releasing.{LetsOut, told_out, wrote}
+use Rattle.playback.specs.Releasing.{LetsOut, told_out}
 use Rattle.playback.proofs.Releases.{Unfolds, unfolds}
 
 module _ (cipher : Make) (r r' : Receiver) (before after : List ℕ) where
@@ -19,32 +19,23 @@ module _ (cipher : Make) (r r' : Receiver) (before after : List ℕ) where
     pub buffer : after ≡ filled (written (answer cipher r (to_release room))) before
     pub long : release_length result ≡ length (written (answer cipher r (to_release room)))
 
-  pub record Lets (o : Option Released) : Type 0 where
-    pub lets : LetsOut cipher (receiving r) (receiving r') (told_out o after)
-    pub buffer : after ≡ filled (wrote (told_out o after)) before
-
   -- in a buffer of 64 bytes
   roomy : (result : Result (Option Released) Refusal) (room : ℕ) → room ≡ 64 → ReleasedAs result room → ReleasedAs result 64
   roomy result room e h = subst (ReleasedAs result) e h
 
-  -- the payload that is told is the whole front of that length, so that the buffer is as long
-
-  pub lets_out : (o : Option Released) (room : ℕ) → room ≡ 64 → ReleasedAs (Ok o) room → Lets o
+  pub lets_out : (o : Option Released) (room : ℕ) → room ≡ 64 → ReleasedAs (Ok o) room → LetsOut cipher (receiving r) (receiving r') (told_out o after)
   lets_out o room e h = go o (roomy (Ok o) room e h)
     where
-      go : (o : Option Released) → ReleasedAs (Ok o) 64 → Lets o
+      go : (o : Option Released) → ReleasedAs (Ok o) 64 → LetsOut cipher (receiving r) (receiving r') (told_out o after)
       go None h =
           let all : Unfolds cipher r none = subst (Unfolds cipher r) (sym h.says) (unfolds cipher r) in
-          record { lets = (all.0, ap receiving (all.1 ∙ sym h.leaves)); buffer = h.buffer ∙ ap (λ a. filled (written a) before) (sym h.says) }
+          (all.0, ap receiving (all.1 ∙ sym h.leaves))
       go (Some x) h =
           let all : Unfolds cipher r (released_says x after) = subst (Unfolds cipher r) (sym h.says) (unfolds cipher r) in
-          record {
-            lets = (
-              subst (λ q. released cipher r (until_none cipher r) ≡ released_says x after ∷ released cipher q (until_none cipher q)) (sym h.leaves) all.0,
-              ap receiving (subst (λ q. afterwards cipher r (until_none cipher r) ≡ afterwards cipher q (until_none cipher q)) (sym h.leaves) all.1),
-            );
-            buffer = h.buffer ∙ ap (λ a. filled (written a) before) (sym h.says);
-          }
+          (
+            subst (λ q. released cipher r (until_none cipher r) ≡ released_says x after ∷ released cipher q (until_none cipher q)) (sym h.leaves) all.0,
+            ap receiving (subst (λ q. afterwards cipher r (until_none cipher r) ≡ afterwards cipher q (until_none cipher q)) (sym h.leaves) all.1),
+          )
 
   pub never_refused : (result : Result (Option Released) Refusal) (room : ℕ) → room ≡ 64 → ReleasedAs result room → IsOk result
   never_refused (Ok o) room e h = refl

@@ -10,7 +10,7 @@ use Rattle.link.specs.Questions.{first_no, unless}
 use Rattle.link.specs.Reception.{refuses}
 use Rattle.link.specs.Receiver.{Receiver, Call, to_take, to_key, Answer, refused, holds, steps, none, out, outs, questions, granted, told, deed, answer, then, after, answers, released}
 use Rattle.link.specs.Join.{Node, finish}
-use Rattle.playback.specs.declared.step.Moment.{Moment}
+use Rattle.capture.specs.declared.forms.Time.{Time}
 use Rattle.playback.specs.Parts.{Part, silent, asking, receiving, behind, calls, offers, with_releases}
 use Rattle.playback.specs.Steps.{Hearing, answered, heard, hearing, join_hearing, let_out, let_outs, read_hearing, walked}
 use Rattle.playback.specs.Stages.{called, Heard, heard_part}
@@ -33,7 +33,7 @@ key_quiet cipher r t bytes = go (first_no (questions cipher r (to_key t bytes)))
     go None = refl
     go (Some refusal) = refl
 
-module _ (cipher : Make) (pair : Key) (m : Moment) (xs : List Record) where
+module _ (cipher : Make) (pair : Key) (m : Time) (xs : List Record) where
   -- a call and the releases behind it: the same steps as the releases that a granted key is left with
   call_onwards : (r : Receiver) (call : Call) → outs (answer cipher r call) ≡ [] →
       map (let_out m.seconds m.micros) (released cipher r (with_releases cipher r (Some call))) ++ walked cipher pair (receiving (after cipher r (with_releases cipher r (Some call)))) xs
@@ -65,14 +65,14 @@ module _ (cipher : Make) (pair : Key) (m : Moment) (xs : List Record) where
   receiver_onwards r t bytes (Err refusal) = nothing_on r
 
 -- only a granted key has packets go out
-silent_quiet : (cipher : Make) (m : Moment) (t : ℕ) (bytes : List ℕ) (p : Result Packet Refusal) → goes_out m (read_hearing cipher silent t bytes p) ≡ None
+silent_quiet : (cipher : Make) (m : Time) (t : ℕ) (bytes : List ℕ) (p : Result Packet Refusal) → goes_out m (read_hearing cipher silent t bytes p) ≡ None
 silent_quiet cipher m t bytes (Ok (a_request p)) = refl
 silent_quiet cipher m t bytes (Ok (an_answer p)) = refl
 silent_quiet cipher m t bytes (Ok (a_data p)) = refl
 silent_quiet cipher m t bytes (Ok (a_key p)) = refl
 silent_quiet cipher m t bytes (Err refusal) = refl
 
-asking_quiet : (cipher : Make) (node : Node) (m : Moment) (t : ℕ) (bytes : List ℕ) (p : Result Packet Refusal) → goes_out m (read_hearing cipher (asking node) t bytes p) ≡ None
+asking_quiet : (cipher : Make) (node : Node) (m : Time) (t : ℕ) (bytes : List ℕ) (p : Result Packet Refusal) → goes_out m (read_hearing cipher (asking node) t bytes p) ≡ None
 asking_quiet cipher node m t bytes (Ok (a_request p)) = refl
 asking_quiet cipher node m t bytes (Ok (an_answer p)) = go (finish cipher node t bytes)
   where
@@ -84,7 +84,7 @@ asking_quiet cipher node m t bytes (Ok (a_key p)) = refl
 asking_quiet cipher node m t bytes (Err refusal) = refl
 
 -- the steps from a record on
-pub walked_one : (cipher : Make) (pair : Key) (part : Part) (x : Record) (xs : List Record) (m : Moment) → m.seconds ≡ x.seconds → m.micros ≡ x.micros →
+pub walked_one : (cipher : Make) (pair : Key) (part : Part) (x : Record) (xs : List Record) (m : Time) → m.seconds ≡ x.seconds → m.micros ≡ x.micros →
     walked cipher pair part (x ∷ xs) ≡ heard x (hearing cipher part x) ∷ onwards cipher pair (heard_part cipher pair part (time x) x.bytes) (goes_out m (hearing cipher part x)) xs
 unfolding walked let_outs calls hearing
 walked_one cipher pair silent x xs m e f = ap (λ o. heard x (hearing cipher silent x) ∷ onwards cipher pair (heard_part cipher pair silent (time x) x.bytes) o xs) (sym (silent_quiet cipher m (time x) x.bytes (read_packet x.bytes)))
@@ -94,12 +94,12 @@ walked_one cipher pair (receiving r) x xs m e f =
     ∙ ap (λ l. heard x (hearing cipher (receiving r) x) ∷ l) (receiver_onwards cipher pair m xs r (time x) x.bytes (read_packet x.bytes))
 
 -- a record that was heard, with what the node made of it, comes off what is to come
-module _ (cipher : Make) (pair : Key) (part : Part) (o : Option Moment) (xs ys : List Record) (quiet : o ≡ None) where
+module _ (cipher : Make) (pair : Key) (part : Part) (o : Option Time) (xs ys : List Record) (quiet : o ≡ None) where
   pub ends_there : xs ≡ [] → ys ≡ [] → (onwards cipher pair part o xs ≡ []) × (onwards cipher pair part o ys ≡ [])
   unfolding walked
   ends_there e f = ((λ i. onwards cipher pair part (quiet i) (e i)), (λ i. onwards cipher pair part (quiet i) (f i)))
 
-  pub hears_one : (part' : Part) (o' : Option Moment) (x : Record) (t : ℕ) (h : Hearing) (m : Moment) → xs ≡ x ∷ ys → t ≡ time x → Heard cipher pair part t x.bytes part' h → o' ≡ goes_out m h → m.seconds ≡ x.seconds → m.micros ≡ x.micros →
+  pub hears_one : (part' : Part) (o' : Option Time) (x : Record) (t : ℕ) (h : Hearing) (m : Time) → xs ≡ x ∷ ys → t ≡ time x → Heard cipher pair part t x.bytes part' h → o' ≡ goes_out m h → m.seconds ≡ x.seconds → m.micros ≡ x.micros →
       onwards cipher pair part o xs ≡ heard x h ∷ onwards cipher pair part' o' ys
   unfolding hearing
   hears_one part' o' x t h m first at there goes e f =

@@ -14,7 +14,7 @@ use Rattle.link.specs.Receiver.{out}
 use Rattle.node.specs.declared.released.Released.{Released}
 use Rattle.playback.specs.declared.counts.Counts.{Counts}
 use Rattle.playback.specs.declared.step as step
-use Rattle.playback.specs.declared.step.Moment.{Moment}
+use Rattle.capture.specs.declared.forms.Time.{Time}
 use Rattle.playback.specs.declared.step.Step.TheVariants.{Out}
 use Rattle.playback.specs.Steps.{order_of, order_out}
 use Rattle.playback.specs.Walks.{step_said}
@@ -44,7 +44,7 @@ pub puts_nothing : (at : ℕ) (buffer : List ℕ) → Puts at [] buffer buffer
 puts_nothing at buffer done before here start = start ∙ ap (λ d. filled d before) (sym (append-nil done))
 
 -- the order that a true release is
-module _ (m : Moment) (x : Released) (buffer : List ℕ) (right : x.verdict ≡ true) where
+module _ (m : Time) (x : Released) (buffer : List ℕ) (right : x.verdict ≡ true) where
   abbrev pub order_told : List ℕ → Record
   order_told payload = record { seconds = m.seconds; micros = m.micros; bytes = payload }
 

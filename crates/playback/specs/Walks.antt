@@ -7,7 +7,7 @@ use Rattle.capture.specs.Format.{Record, record_said}
 use Rattle.link.specs.Receiver.{refused, holds, steps, none, out}
 use Rattle.node.specs.Answers.{released_says, written}
 use Rattle.playback.specs.declared.step as step
-use Rattle.playback.specs.declared.step.Moment.{Moment}
+use Rattle.capture.specs.declared.forms.Time.{Time}
 use Rattle.playback.specs.declared.walk as walk
 use Rattle.playback.specs.Parts.{Part}
 use Rattle.playback.specs.Steps.{Hearing, too_soon, repeated, asked, has_joined, answered, Step, heard, let_out, walked}
@@ -15,7 +15,7 @@ use Rattle.playback.specs.Releasing.{to_go_out, settled}
 use Rattle.playback.specs.Stages.{part_of, outcome_said}
 
 -- first what a granted key lets out, then the records
-abbrev pub onwards : Make → Key → Part → Option Moment → List Record → List Step
+abbrev pub onwards : Make → Key → Part → Option Time → List Record → List Step
 onwards cipher pair part None xs = walked cipher pair part xs
 onwards cipher pair part (Some m) xs = map (let_out m.seconds m.micros) (to_go_out cipher part) ++ walked cipher pair (settled cipher part) xs
 
@@ -43,7 +43,7 @@ step_wrote (Some (heard x hearing)) = []
 step_wrote (Some (let_out seconds micros answer)) = written answer
 
 -- a granted key has its packets go out next
-abbrev pub goes_out : Moment → Hearing → Option Moment
+abbrev pub goes_out : Time → Hearing → Option Time
 goes_out m too_soon = None
 goes_out m repeated = None
 goes_out m asked = None
@@ -55,6 +55,6 @@ goes_out m (answered none) = None
 goes_out m (answered (out interval number payload verdict)) = None
 
 -- what a granted key lets out comes first; where it lets out no more, the records go on
-abbrev pub LetsOn : Option Step → List Step → List Step → Option Moment → Type 0
+abbrev pub LetsOn : Option Step → List Step → List Step → Option Time → Type 0
 LetsOn None before after releasing = (before ≡ after) × (releasing ≡ None)
 LetsOn (Some s) before after releasing = before ≡ s ∷ after

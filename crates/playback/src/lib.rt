@@ -17,5 +17,5 @@ pub use counts::Counts;
 pub use opening::{MAX_CAPTURE, open};
 pub use outcome::Outcome;
 pub use replaying::replay;
-pub use step::{Moment, Step};
+pub use step::Step;
 pub use walk::Walk;

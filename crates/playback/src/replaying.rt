@@ -9,10 +9,10 @@ ghost use Rattle.playback.specs.Replays.{GivesBack, ReplaysStand};
 ghost use Rattle.playback.specs.Walks.{step_said, to_come};
 
 use crate::counts::Counts;
-use crate::opening::{MAX_RECORD, RC5, open};
+use crate::opening::open;
 use crate::step::Step;
 use crate::walk::Walk;
-use capture::{ByteOrder, Header, Record};
+use capture::{Header, Record, RecordFormat};
 use cipher::{Block, Key, Rc5};
 use packet::MAX_PAYLOAD;
 use refusal::Refusal;
@@ -26,7 +26,7 @@ fn put_order(order: &Record, written: usize, out: &mut [u8]) -> usize
 {
     let end = written + Record::LEAD + order.bytes.len();
     let length = order
-        .write(ByteOrder::Little, MAX_RECORD, &mut out[written..end])
+        .write(RecordFormat::WRITTEN, &mut out[written..end])
         .unwrap();
     written + length
 }
@@ -42,11 +42,10 @@ impl Counts {
                 written: self.written,
                 read: self.read + Record::LEAD + record.bytes.len(),
             },
-            Step::Out(moment, released) if released.verdict => {
+            Step::Out(at, released) if released.verdict => {
                 let length = released.length;
                 let order = Record {
-                    seconds: moment.seconds,
-                    micros: moment.micros,
+                    at,
                     bytes: &payload[..length],
                 };
                 Counts {
@@ -83,14 +82,7 @@ fn put_header(link: u32, out: &mut [u8])
     requires { 24 ≤ length out.old }
     ensures { out.new ≡ filled (header_bytes (header_out link)) out.old }
 {
-    let header = Header {
-        order: ByteOrder::Little,
-        zone: 0,
-        accuracy: 0,
-        longest: MAX_RECORD,
-        link,
-    };
-    let _ = header.write(out);
+    let _ = Header::of_records(RecordFormat::WRITTEN, link).write(out);
 }
 
 // Does with a capture what a node of this pair did, and writes the orders that were proved, as a capture.
@@ -105,6 +97,6 @@ pub fn replay(pair: Key, capture: &[u8], out: &mut [u8]) -> Result<Counts, Refus
     if out.len() < capture.len() {
         return Err(Refusal::BufferTooShort);
     }
-    put_header(RC5, out);
+    put_header(Header::RC5, out);
     Ok(Walk::<Rc5>::new(pair, records).write_orders(out))
 }

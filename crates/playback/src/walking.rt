@@ -10,19 +10,19 @@ ghost use Rattle.playback.specs.Walks.{goes_out, LetsOn, StepsOn, step_wrote, to
 
 use crate::outcome::Outcome;
 use crate::stage::Stage;
-use crate::step::{Moment, Step};
+use crate::step::Step;
 use crate::walk::Walk;
-use capture::Records;
+use capture::{Records, Time};
 use cipher::{Block, Key};
 use packet::MAX_PAYLOAD;
 use refusal::Refusal;
 use std::mem::replace;
 
-fn releasing(moment: Moment, outcome: Result<Outcome, Refusal>) -> Option<Moment>
-    ensures { result ≡ goes_out moment (outcome_said outcome) }
+fn releasing(at: Time, outcome: Result<Outcome, Refusal>) -> Option<Time>
+    ensures { result ≡ goes_out at (outcome_said outcome) }
 {
     match outcome {
-        Ok(Outcome::Adopted(_)) => Some(moment),
+        Ok(Outcome::Adopted(_)) => Some(at),
         _ => None,
     }
 }
@@ -45,12 +45,12 @@ impl<'a, B: Block> Walk<'a, B> {
         ensures steps { LetsOn (told_step result payload.new) (to_come B.make self.old) (to_come B.make self.new) self.new.releasing }
         ensures buffer { payload.new ≡ filled (step_wrote (told_step result payload.new)) payload.old }
     {
-        let moment = self.releasing?;
+        let at = self.releasing?;
         let stage = replace(&mut self.stage, Stage::Silent);
         let (stage, released) = stage.release(payload);
         self.stage = stage;
         match released {
-            Some(released) => Some(Step::Out(moment, released)),
+            Some(released) => Some(Step::Out(at, released)),
             None => {
                 self.releasing = None;
                 None
@@ -67,12 +67,8 @@ impl<'a, B: Block> Walk<'a, B> {
         let record = self.records.next()?;
         let stage = replace(&mut self.stage, Stage::Silent);
         let (stage, outcome) = stage.hear(self.pair, &record);
-        let moment = Moment {
-            seconds: record.seconds,
-            micros: record.micros,
-        };
         self.stage = stage;
-        self.releasing = releasing(moment, outcome);
+        self.releasing = releasing(record.at, outcome);
         Some(Step::Heard(record, outcome))
     }
 

@@ -1,4 +1,4 @@
-use Rattle.std.proofs.Common.{◌≡◌, ◌+◌, ◌-◌, length, take, drop, ap, arith, length-drop, length-take}
+use Rattle.std.proofs.Common.{◌≡◌, ◌+◌, ◌-◌, length, take, drop, arith, length-drop, length-take}
 use Rattle.capture.specs.declared.forms.ByteOrder.TheVariants.{Little}
 use Rattle.capture.specs.Format.{record_length, record_said}
 use Rattle.packet.proofs.BufferLaws.{puts_mid}
@@ -6,9 +6,9 @@ use Rattle.capture.proofs.RecordLaws.{length_record_bytes}
 use Rattle.playback.proofs.Orders.{wrote_order}
 use Rattle.playback.proofs.replaying.put_order.Goals as goal
 
-pub returns : goal.returns
-returns c =
+pub returns-clause-after : goal.returns-clause-after
+returns-clause-after c =
     let o = record_said c.args.order.now in
     let long : length (take ((c.args.written + 16 + length c.args.order.now.bytes.now) - c.args.written) (drop c.args.written c.args.out.now)) ≡ record_length o = simp (length-take, length-drop) (omega arith) in
     let wrote = wrote_order o _ _ _ _ c.requires.regular long c.write.ensures.value c.write.ensures.after c.unwrap-length.ensures in
-    record { value = ap (λ n. c.args.written + n) wrote.0; after = puts_mid _ _ _ _ _ (omega (arith, length_record_bytes Little o)) wrote.1 }
+    puts_mid _ _ _ _ _ (omega (arith, length_record_bytes Little o)) wrote.1

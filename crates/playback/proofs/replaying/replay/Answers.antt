@@ -8,13 +8,11 @@ use Rattle.playback.specs.Playing.{rc5_playable}
 use Rattle.playback.specs.Replays.{GivesBack}
 use Rattle.playback.specs.Walks.{to_come}
 use Rattle.playback.proofs.Openings.{SoundCapture, sound_capture}
-use Rattle.playback.proofs.Played.{all_fit, counts_so, filled_so, fits_in, gives_back, replayed_so, stands, too_short}
+use Rattle.playback.proofs.Played.{all_fit, counts_so, filled_so, fits_in, gives_back, replayed_so, stands}
 use Rattle.playback.proofs.replaying.replay.Goals as goal
 
-pub returns-then-out-capture : goal.returns-then-out-capture
-returns-then-out-capture c =
-    let short = too_short c.args.pair c.args.capture.now _ c.args.out.now c.in_ok-records.ensures.value c.if-out-capture.true in
-    record { value = ap (λ x. x.0) short; after = ap (λ x. x.1) short; fits = tt; back = tt; history = stands _ _ }
+pub returns-then-out-capture-clause-history : goal.returns-then-out-capture-clause-history
+returns-then-out-capture-clause-history c = stands _ _
 
 pub put_header-requires : goal.put_header-requires
 put_header-requires c =

@@ -1,14 +1,10 @@
 use Rattle.std.proofs.Common.{ap}
 use Rattle.playback.specs.Stages.{part_of}
 use Rattle.playback.proofs.stage.Stage.hear.Goals as goal
-use Rattle.playback.proofs.Joining.{heard_asking, heard_silent, heard_unread}
+use Rattle.playback.proofs.Joining.{heard_asking, heard_unread}
 
 pub returns-in-Err : goal.returns-in-Err
 returns-in-Err g c = heard_unread _ _ _ _ _ _ c.in-Err.ensures.value
-
-pub returns-in-Silent : goal.returns-in-Silent
-returns-in-Silent g c =
-    heard_silent _ _ _ _ _ _ _ _ c.in-Ok.ensures.value (ap part_of c.in-Silent.is) c.ask-stage.ensures.part c.ask-stage.ensures.outcome
 
 pub returns-in-Asking : goal.returns-in-Asking
 returns-in-Asking g c =
