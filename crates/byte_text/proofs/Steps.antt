@@ -1,5 +1,6 @@
--- One pair of digits more of a text that is read.
-use Rattle.std.proofs.Common.{◌≡◌, ℕ, ◌≤◌, List, [], ◌∷◌, ◌++◌, length, get_or, drop, Some, None, Option, refl, ap, append_assoc, arith}
+-- One pair of digits more of a text that is read, and its end.
+use Rattle.std.proofs.Common.{◌≡◌, ℕ, ◌<◌, ◌≤◌, Bool, true, false, List, [], ◌∷◌, ◌++◌, length, get_or, drop, nat_eq, Some, None, Option, refl, ap, append_assoc, append-nil, arith, take_all, length-drop}
+use Rattle.std.specs.Bool.{then_some}
 use Rattle.std.specs.Option.{option_map}
 use Rattle.byte_text.specs.Text.{byte_of, with_byte, bytes_of}
 
@@ -21,8 +22,15 @@ bytes_next [] h = absurd (omega arith)
 bytes_next (x ∷ []) h = absurd (omega arith)
 bytes_next (x ∷ y ∷ rest) h = refl
 
-pub bytes_odd : (rest : List ℕ) → length rest ≡ 1 → bytes_of rest ≡ None
+-- where no pair is left, the text is read if nothing is left
+pub after_short : (bs rest : List ℕ) → length rest < 2 → after bs (bytes_of rest) ≡ then_some (nat_eq (length rest) 0) bs
 unfolding bytes_of
-bytes_odd [] h = absurd (omega arith)
-bytes_odd (x ∷ []) h = refl
-bytes_odd (x ∷ y ∷ rest) h = absurd (omega arith)
+after_short bs [] h = ap Some (append-nil bs)
+after_short bs (x ∷ []) h = refl
+after_short bs (x ∷ y ∷ rest) h = absurd (omega arith)
+
+pub option_map-then_some : {A B : Type 0} (f : A → B) (b : Bool) (x : A) → option_map f (then_some b x) ≡ then_some b (f x)
+option_map-then_some f true x = refl
+option_map-then_some f false x = refl
+
+pub ruleset reading = (after_more, after_none, bytes_next, after_short, option_map-then_some, take_all, length-drop)

@@ -26,19 +26,14 @@ impl fmt::Display for Hex<'_> {
 fn is_plain(byte: u8) -> bool
     ensures { result ≡ plain byte }
 {
-    byte >= 0x20 && byte <= 0x7e && byte != b'"' && byte != b'\\'
+    (b' '..=b'~').contains(&byte) && byte != b'"' && byte != b'\\'
 }
 
 // Whether bytes can stand between double quotes as they are.
 pub fn is_text(bytes: &[u8]) -> bool
     ensures { result ≡ all_plain bytes.now }
 {
-    for byte in bytes {
-        if !is_plain(*byte) {
-            return false;
-        }
-    }
-    true
+    bytes.iter().all(|byte| is_plain(*byte))
 }
 
 // Bytes that print in double quotes where they are text, else as hexadecimal text.
@@ -68,21 +63,18 @@ fn byte(high: u8, low: u8) -> Option<u8>
 }
 
 // The bytes that a text writes, or `None` where it is not pairs of digits.
+#[tactic(auto, using(crate::proofs::Steps::reading))]
 pub fn parse(heap: Global, text: &str) -> Result<Option<Vec<u8>>, AllocError>
     ensures { IfOk result (λ bytes. option_map vec_items bytes ≡ bytes_of text.now) }
 {
     let mut bytes = Vec::new(heap);
     let mut rest = text.as_bytes();
-    while rest.len() >= 2 {
-        let Some(b) = byte(rest[0], rest[1]) else {
+    while let [high, low, behind @ ..] = rest {
+        let Some(b) = byte(*high, *low) else {
             return Ok(None);
         };
         bytes.push(b)?;
-        rest = &rest[2..];
+        rest = behind;
     }
-    if rest.is_empty() {
-        Ok(Some(bytes))
-    } else {
-        Ok(None)
-    }
+    Ok(rest.is_empty().then_some(bytes))
 }

@@ -1,10 +1,12 @@
 // What keeps a program from its answer, told to the operator in words.
-ghost use Rattle.std.specs.Prelude.{◌≡◌, MatchResult};
+ghost use Rattle.std.specs.Prelude.{◌≡◌, ◌≢◌, MatchResult};
+ghost use Rattle.std.specs.IoError.{error_kind};
 ghost use Rattle.std.specs.Process.{exit_status};
 ghost use Rattle.inputs.specs.declared.fault.Fault.TheVariants.{NoMemory, Refused};
 
-use refusal::Refusal;
+use refusal::{Numbered, Refusal};
 use std::alloc::AllocError;
+use std::io::ErrorKind;
 use std::process::ExitCode;
 use std::{fmt, io};
 
@@ -19,6 +21,19 @@ pub enum Fault {
     Refused(Refusal),
     NoMemory,
     Unwritten(io::Error),
+}
+
+impl Fault {
+    // Want of memory, else the fault that the caller names: a value, since calling a closure would need a `requires`.
+    pub fn of(e: io::Error, other: Fault) -> Fault
+        ensures memory { error_kind e ≡ ErrorKind.OutOfMemory → result ≡ NoMemory }
+        ensures other { error_kind e ≢ ErrorKind.OutOfMemory → result ≡ other }
+    {
+        match e.kind() {
+            ErrorKind::OutOfMemory => Fault::NoMemory,
+            _ => other,
+        }
+    }
 }
 
 impl fmt::Display for Fault {
@@ -40,7 +55,7 @@ impl fmt::Display for Fault {
                     "refused {number}, the input has more than {longest} bytes"
                 )
             }
-            Fault::Refused(refusal) => write!(f, "refused {}, {refusal}", refusal.number()),
+            Fault::Refused(refusal) => write!(f, "{}", Numbered(*refusal)),
             Fault::NoMemory => f.write_str("there is not enough memory"),
             Fault::Unwritten(e) => write!(f, "standard output cannot be written: {e}"),
         }
@@ -64,14 +79,12 @@ impl From<Refusal> for Fault {
 }
 
 // Tells a fault on standard error behind the program's name, and hands the result on. A failed write is let go.
-pub fn tell(rt: &HostRuntime, program: &str, res: Result<(), Fault>) -> Result<(), Fault>
+pub fn tell(rt: &impl Eprint, program: &str, res: Result<(), Fault>) -> Result<(), Fault>
     ensures { result ≡ res }
 {
-    if let Err(fault) = res {
+    res.inspect_err(|fault| {
         let _ = eprintln!(rt; "{program}: {fault}");
-        return Err(fault);
-    }
-    Ok(())
+    })
 }
 
 // The status that a program ends with: 0, or 1 where a fault kept it from its answer.

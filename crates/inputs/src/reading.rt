@@ -8,7 +8,7 @@ use cipher::Key;
 use std::alloc::Global;
 use std::fs::File;
 use std::io;
-use std::io::{ErrorKind, Read};
+use std::io::Read;
 
 const KEY_FILE: &str = "pair.key";
 
@@ -36,21 +36,17 @@ fn read_key_file(rt: &HostRuntime) -> io::Result<Vec<u8>>
 pub fn key_file(rt: &HostRuntime) -> Result<Vec<u8>, Fault>
     ensures { IfOk result (λ bytes. vec_len bytes ≤ 17) }
 {
-    match read_key_file(rt) {
-        Ok(bytes) => Ok(bytes),
-        Err(e) if e.kind() == ErrorKind::OutOfMemory => Err(Fault::NoMemory),
-        Err(e) => Err(Fault::KeyUnread(e)),
-    }
+    read_key_file(rt).map_err(|e| Fault::of(e, Fault::KeyUnread(e)))
 }
 
 // The key that exactly 16 bytes are.
 pub fn key_of(bytes: &[u8]) -> Result<Key, Fault>
     ensures { KeyRead bytes.now result }
 {
-    match bytes.first_chunk::<16>() {
-        Some(front) if bytes.len() == KEY_LENGTH => Ok(Key::from_bytes(*front)),
-        _ => Err(Fault::KeyLength(bytes.len())),
-    }
+    bytes
+        .as_array::<KEY_LENGTH>()
+        .map(|whole| Key::from_bytes(*whole))
+        .ok_or(Fault::KeyLength(bytes.len()))
 }
 
 // All of an input that has at most `longest` bytes; a longer one is a fault, and none of it is answered.
@@ -59,12 +55,12 @@ fn read_within<R: Read + Drop>(heap: Global, input: R, longest: usize) -> Result
     ensures whole { IfOk result (λ bytes. IfSome (R.remaining input) (λ xs. bytes.items ≡ xs)) }
     ensures long { IfErr result (λ fault. fault ≡ InputTooLong longest → IfSome (R.remaining input) (λ xs. longest < length xs)) }
 {
-    match read_at_most(heap, input, longest.saturating_add(1)) {
-        Ok(bytes) if bytes.len() > longest => Err(Fault::InputTooLong(longest)),
-        Ok(bytes) => Ok(bytes),
-        Err(e) if e.kind() == ErrorKind::OutOfMemory => Err(Fault::NoMemory),
-        Err(e) => Err(Fault::InputUnread(e)),
+    let read = read_at_most(heap, input, longest.saturating_add(1));
+    let bytes = read.map_err(|e| Fault::of(e, Fault::InputUnread(e)))?;
+    if bytes.len() > longest {
+        return Err(Fault::InputTooLong(longest));
     }
+    Ok(bytes)
 }
 
 // All of standard input, where it has at most `longest` bytes.

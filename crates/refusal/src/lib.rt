@@ -103,3 +103,15 @@ impl fmt::Display for Refusal {
         }
     }
 }
+
+// A refusal as a program tells it: its number, and then the words.
+#[derive(Clone, Copy)]
+pub struct Numbered(pub Refusal);
+
+impl fmt::Display for Numbered {
+    fn fmt<W: fmt::Write>(&self, f: &mut fmt::Formatter<W>) -> fmt::Result {
+        let Numbered(refusal) = *self;
+        let number = refusal.number();
+        write!(f, "refused {number}, {refusal}")
+    }
+}

@@ -1,31 +1,57 @@
 // A carriage: its clock, its receiver, what it heard and what it let out.
+use crate::bed::Bed;
 use crate::recording::Recording;
 use crate::saving::write_file;
-use crate::words::{Sent, show_refusal};
+use crate::sent::{MAX_PACKET, Sent};
 use anyhow::anyhow;
-use base::Base;
 use byte_text::Readable;
 use cipher::{Key, Rc5};
 use node::{Reading, Receiver, Released, Requesting};
-use source::Pebbled;
-use std::alloc::{AllocError, Global};
+use packet::MAX_PAYLOAD;
+use refusal::Numbered;
+use std::fmt;
+use std::fmt::Write;
 
 const PAIR: Key = Key {
     high: 0x6361727269616765,
     low: 0x2d6f6e652d706169,
 };
 
-// How far a carriage's clock is off the base's.
+// A receiver holds at most so many packets.
+const PLACES: usize = 32;
+
+// How far a carriage's clock is ahead of the base's, or behind it where this is below 0.
 #[derive(Clone, Copy)]
-pub struct Clock {
-    pub ahead: u64,
-    pub behind: u64,
-}
+pub struct Clock(pub i64);
 
 impl Clock {
     // What the carriage's clock shows at a time of the base's.
     fn reading(self, time: u64) -> Reading {
-        Reading(time.saturating_add(self.ahead).saturating_sub(self.behind))
+        Reading(time.saturating_add_signed(self.0))
+    }
+}
+
+// A released packet in words; the payload as text where it is text.
+#[derive(Clone, Copy)]
+struct Order<'a> {
+    released: Released,
+    payload: &'a [u8],
+}
+
+impl fmt::Display for Order<'_> {
+    fn fmt<W: fmt::Write>(&self, f: &mut fmt::Formatter<W>) -> fmt::Result {
+        let Order { released, payload } = *self;
+        let Released {
+            interval,
+            number,
+            length: _,
+            verdict,
+        } = released;
+        write!(
+            f,
+            "interval {interval}, number {number}, {verdict}, {}",
+            Readable(payload)
+        )
     }
 }
 
@@ -38,21 +64,50 @@ pub struct Carriage {
     log: String,
 }
 
-// A released packet in words; the payload as text where it is text.
-fn released_text(heap: Global, released: Released, payload: &[u8]) -> Result<String, AllocError> {
-    let Released {
-        interval,
-        number,
-        length: _,
-        verdict,
-    } = released;
-    format!(in heap;
-        "interval {interval}, number {number}, {verdict}, {}",
-        Readable(payload)
-    )
-}
-
 impl Carriage {
+    // A carriage asks to join, the base answers, and the join is finished.
+    pub(crate) fn join(
+        rt: &HostRuntime,
+        bed: &mut Bed,
+        name: &'static str,
+        clock: Clock,
+        time: u64,
+    ) -> anyhow::Result<Carriage> {
+        let mut recording = Recording::new(rt.alloc())?;
+        let mut buffer = [0; MAX_PACKET];
+        let at = clock.reading(time);
+        let asking = Requesting::request(PAIR, time.to_be_bytes(), at, 1_000, &mut buffer);
+        let (node, length) = asking.map_err(|_| anyhow!("the request is refused"))?;
+        let asked = Sent::front(rt.alloc(), &buffer, length)?;
+        recording.add(at, asked.packet())?;
+        println!(rt; "{time} {name} asks to join: {length} bytes")?;
+        let later = time.saturating_add(1_000);
+        let said = bed.answer(rt, later, PAIR, &asked)?;
+        println!(rt;
+            "{later} base answers {name}: {} bytes",
+            said.packet().len()
+        )?;
+        let at = clock.reading(later);
+        recording.add(at, said.packet())?;
+        let finished = node.finish::<Rc5>(at, said.packet());
+        let receiver = finished.map_err(|_| anyhow!("the join is refused"))?;
+        println!(rt; "{later} {name} has joined")?;
+        Ok(Carriage {
+            name,
+            clock,
+            receiver,
+            recording,
+            log: String::new(rt.alloc()),
+        })
+    }
+
+    // Records a packet with the clock's reading when it is heard.
+    fn hear(&mut self, time: u64, sent: &Sent) -> anyhow::Result<Reading> {
+        let at = self.clock.reading(time);
+        self.recording.add(at, sent.packet())?;
+        Ok(at)
+    }
+
     pub(crate) fn hear_order(
         &mut self,
         rt: &HostRuntime,
@@ -61,14 +116,10 @@ impl Carriage {
         what: &str,
     ) -> anyhow::Result<()> {
         let name = self.name;
-        let at = self.clock.reading(time);
-        self.recording.add(at, sent.packet())?;
+        let at = self.hear(time, sent)?;
         match self.receiver.take(at, sent.packet()) {
             Ok(held) => println!(rt; "{time} {name} takes {what}: {held} held")?,
-            Err(refusal) => {
-                let number = refusal.number();
-                println!(rt; "{time} {name} takes {what}: refused {number}, {refusal}")?;
-            }
+            Err(refusal) => println!(rt; "{time} {name} takes {what}: {}", Numbered(refusal))?,
         }
         Ok(())
     }
@@ -77,49 +128,46 @@ impl Carriage {
     pub(crate) fn hear_key(
         &mut self,
         rt: &HostRuntime,
-        heap: Global,
         time: u64,
         sent: &Sent,
     ) -> anyhow::Result<()> {
         let name = self.name;
         let interval = sent.interval();
-        let at = self.clock.reading(time);
-        self.recording.add(at, sent.packet())?;
+        let at = self.hear(time, sent)?;
         match self.receiver.key(at, sent.packet()) {
             Ok(steps) => println!(rt;
                 "{time} {name} hears the key of interval {interval}: granted, steps {steps}"
             )?,
             Err(refusal) => {
-                let number = refusal.number();
                 println!(rt;
-                    "{time} {name} hears the key of interval {interval}: refused {number}, {refusal}"
+                    "{time} {name} hears the key of interval {interval}: {}",
+                    Numbered(refusal)
                 )?;
                 return Ok(());
             }
         }
-        self.let_out(rt, heap, time)
+        self.let_out(rt, time)
     }
 
     // Releases until none is left.
-    fn let_out(&mut self, rt: &HostRuntime, heap: Global, time: u64) -> anyhow::Result<()> {
+    fn let_out(&mut self, rt: &HostRuntime, time: u64) -> anyhow::Result<()> {
         let name = self.name;
-        for _ in 0..33 {
-            let mut out = [0; 64];
-            match self.receiver.release(&mut out) {
+        // A `while let` is no plainer: it would need a measure over the receiver's state, and this count always suffices.
+        for _ in 0..=PLACES {
+            let mut buffer = [0; MAX_PAYLOAD];
+            match self.receiver.release(&mut buffer) {
                 Ok(Some(released)) => {
-                    let end = released.length.min(64);
-                    let text = released_text(heap, released, &out[0..end])?;
-                    println!(rt; "{time} {name} releases: {text}")?;
-                    self.log.push_str("  ")?;
-                    self.log.push_str(text.as_str())?;
-                    self.log.push_str("\n")?;
+                    let payload = &buffer[..released.length.min(MAX_PAYLOAD)];
+                    let order = Order { released, payload };
+                    println!(rt; "{time} {name} releases: {order}")?;
+                    writeln!(self.log, "  {order}")?;
                 }
                 Ok(None) => {
                     println!(rt; "{time} {name} releases: none")?;
                     break;
                 }
                 Err(refusal) => {
-                    show_refusal(rt, time, "a release", refusal)?;
+                    println!(rt; "{time} a release: {}", Numbered(refusal))?;
                     break;
                 }
             }
@@ -148,48 +196,5 @@ impl Carriage {
 
     pub(crate) fn same_log(&self, other: &Carriage) -> bool {
         self.log.as_str() == other.log.as_str()
-    }
-}
-
-// A carriage asks to join, the base answers, and the join is finished.
-pub(crate) fn join(
-    rt: &HostRuntime,
-    heap: Global,
-    bed: &mut Base<Rc5, Pebbled<Rc5>, Pebbled<Rc5>>,
-    name: &'static str,
-    clock: Clock,
-    time: u64,
-) -> anyhow::Result<Carriage> {
-    let mut recording = Recording::new(heap)?;
-    let mut asked = Sent::new();
-    let nonce = time.to_be_bytes();
-    let at = clock.reading(time);
-    let Ok((node, length)) = Requesting::request(PAIR, nonce, at, 1_000, &mut asked.bytes) else {
-        return Err(anyhow!("the request is refused"));
-    };
-    asked.length = length;
-    recording.add(at, asked.packet())?;
-    println!(rt; "{time} {name} asks to join: {length} bytes")?;
-    let later = time.saturating_add(1_000);
-    let mut said = Sent::new();
-    let Ok(length) = bed.answer(later, PAIR, asked.packet(), &mut said.bytes) else {
-        return Err(anyhow!("the answer is refused"));
-    };
-    said.length = length;
-    println!(rt; "{later} base answers {name}: {length} bytes")?;
-    let at = clock.reading(later);
-    recording.add(at, said.packet())?;
-    match node.finish::<Rc5>(at, said.packet()) {
-        Ok(receiver) => {
-            println!(rt; "{later} {name} has joined")?;
-            Ok(Carriage {
-                name,
-                clock,
-                receiver,
-                recording,
-                log: String::new(heap),
-            })
-        }
-        Err((_, _)) => Err(anyhow!("the join is refused")),
     }
 }

@@ -3,8 +3,5 @@ use anyhow::anyhow;
 use std::fs;
 
 pub(crate) fn write_file(rt: &HostRuntime, file: &str, bytes: &[u8]) -> anyhow::Result<()> {
-    match fs::write(rt, file, bytes) {
-        Ok(()) => Ok(()),
-        Err(e) => Err(anyhow!(format!(in rt.alloc(); "{file} cannot be written: {e}")?)),
-    }
+    fs::write(rt, file, bytes).map_err(|e| anyhow!("{file} cannot be written: {e}"))
 }

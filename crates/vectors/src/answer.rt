@@ -1,7 +1,7 @@
 // What is printed for a line.
 use crate::case::read;
-use crate::fault::{Fault, Trouble};
-use crate::value::{Value, value_of};
+use crate::fault::{Fault, Trouble, apart};
+use crate::value::{Shown, Value, value_of};
 use std::alloc::{AllocError, Global};
 use std::fmt;
 use std::str::from_utf8;
@@ -27,8 +27,8 @@ impl fmt::Display for Answer<'_> {
             Answer::Unread(fault, "") => write!(f, "? {fault}"),
             Answer::Unread(fault, line) => write!(f, "? {fault}: {line}"),
             Answer::Read(case, value, verdict) => {
-                write!(f, "{case} = {value}")?;
-                if let Value::Refused(refusal) = value {
+                write!(f, "{case} = {}", Shown(value))?;
+                if let Err(refusal) = value {
                     write!(f, " ({refusal})")?;
                 }
                 match verdict {
@@ -41,14 +41,14 @@ impl fmt::Display for Answer<'_> {
     }
 }
 
-fn judged(heap: Global, value: &Value, expected: Option<&str>) -> Result<Verdict, Trouble> {
+fn judged(heap: Global, value: &Value, expected: Option<&str>) -> Result<Verdict, Trouble<Fault>> {
     let Some(text) = expected else {
         return Ok(Verdict::Shown);
     };
     if text.is_empty() {
-        return Err(Trouble::Line(Fault::BadValue));
+        return Err(Fault::BadValue.into());
     }
-    let found = format!(in heap; "{value}")?;
+    let found = Shown(value).to_string(heap)?;
     if found.as_str().eq_ignore_ascii_case(text) {
         Ok(Verdict::Right)
     } else {
@@ -64,10 +64,10 @@ fn parts(line: &str) -> (&str, Option<&str>) {
     }
 }
 
-fn read_answer<'a>(heap: Global, line: &'a str) -> Result<Answer<'a>, Trouble> {
+fn read_answer<'a>(heap: Global, line: &'a str) -> Result<Answer<'a>, Trouble<Fault>> {
     let (text, expected) = parts(line);
     let case = read(heap, text)?;
-    let value = value_of(heap, &case)?;
+    let value = apart(value_of(heap, case))?;
     let verdict = judged(heap, &value, expected)?;
     Ok(Answer::Read(text, value, verdict))
 }
@@ -86,9 +86,6 @@ fn answered<'a>(heap: Global, line: &'a str) -> Result<Answer<'a>, AllocError> {
     if text.is_empty() || text.starts_with('#') {
         return Ok(Answer::Passed(line));
     }
-    match read_answer(heap, line) {
-        Ok(answer) => Ok(answer),
-        Err(Trouble::Line(fault)) => Ok(Answer::Unread(fault, line)),
-        Err(Trouble::Memory(e)) => Err(e),
-    }
+    let read = apart(read_answer(heap, line))?;
+    Ok(read.unwrap_or_else(|fault| Answer::Unread(fault, line)))
 }

@@ -1,4 +1,5 @@
-// Why a line cannot be read as a case.
+// Why a line cannot be read as a case, and what keeps a step from its result.
+use refusal::Refusal;
 use std::alloc::{AllocError, AllocFailed};
 use std::fmt;
 
@@ -41,26 +42,41 @@ impl fmt::Display for Fault {
     }
 }
 
-// What keeps a line from being read: its own fault, or want of memory.
-pub enum Trouble {
-    Line(Fault),
+// What keeps a step from its result: an error of its own, or want of memory.
+pub enum Trouble<E> {
+    Own(E),
     Memory(AllocError),
 }
 
-impl From<AllocError> for Trouble {
-    fn from(e: AllocError) -> Trouble {
+// The two apart: want of memory ends the program, and the step's own result is part of the answer.
+pub(crate) fn apart<T, E>(res: Result<T, Trouble<E>>) -> Result<Result<T, E>, AllocError> {
+    match res {
+        Ok(x) => Ok(Ok(x)),
+        Err(Trouble::Own(e)) => Ok(Err(e)),
+        Err(Trouble::Memory(e)) => Err(e),
+    }
+}
+
+impl<E> From<AllocError> for Trouble<E> {
+    fn from(e: AllocError) -> Trouble<E> {
         Trouble::Memory(e)
     }
 }
 
-impl From<Fault> for Trouble {
-    fn from(fault: Fault) -> Trouble {
-        Trouble::Line(fault)
+impl<E, T: Drop> From<AllocFailed<T>> for Trouble<E> {
+    fn from(e: AllocFailed<T>) -> Trouble<E> {
+        Trouble::Memory(AllocError::from(e))
     }
 }
 
-impl<T: Drop> From<AllocFailed<T>> for Trouble {
-    fn from(_refused: AllocFailed<T>) -> Trouble {
-        Trouble::Memory(AllocError)
+impl From<Fault> for Trouble<Fault> {
+    fn from(fault: Fault) -> Trouble<Fault> {
+        Trouble::Own(fault)
+    }
+}
+
+impl From<Refusal> for Trouble<Refusal> {
+    fn from(refusal: Refusal) -> Trouble<Refusal> {
+        Trouble::Own(refusal)
     }
 }

@@ -8,10 +8,11 @@ mod fault;
 mod value;
 
 use answer::{Answer, Verdict, answer_to};
+use std::fmt;
 use std::io::{BufRead, BufReader, BufWriter, Write};
 
 // How the lines so far came out.
-#[derive(Clone, Copy)]
+#[derive(Clone, Copy, Default)]
 struct Counts {
     right: u64,
     wrong: u64,
@@ -31,40 +32,33 @@ impl Counts {
     }
 }
 
-fn main(rt: HostRuntime) -> anyhow::Result<()> {
-    run(&rt)
+impl fmt::Display for Counts {
+    fn fmt<W: fmt::Write>(&self, f: &mut fmt::Formatter<W>) -> fmt::Result {
+        let Counts {
+            right,
+            wrong,
+            shown,
+            unread,
+        } = *self;
+        write!(
+            f,
+            "{right} ok, {wrong} wrong, {shown} shown, {unread} unread"
+        )
+    }
 }
 
-fn run(rt: &HostRuntime) -> anyhow::Result<()> {
+fn main(rt: HostRuntime) -> anyhow::Result<()> {
     let heap = rt.alloc();
-    let mut input = BufReader::new(heap, rt.stdin())?;
+    let input = BufReader::new(heap, rt.stdin())?;
     let mut out = BufWriter::new(heap, rt.stdout())?;
-    let mut bytes = Vec::new(heap);
-    let mut counts = Counts {
-        right: 0,
-        wrong: 0,
-        shown: 0,
-        unread: 0,
-    };
-    for _ in 0..u64::MAX {
-        bytes.clear();
-        if input.read_until(b'\n', &mut bytes)? == 0 {
-            break;
-        }
-        let answer = answer_to(heap, &bytes)?;
+    let mut counts = Counts::default();
+    for line in input.split(heap, b'\n') {
+        let line = line?;
+        let answer = answer_to(heap, &line)?;
         counts.count(&answer);
         writeln!(out, "{answer}")?;
     }
-    let Counts {
-        right,
-        wrong,
-        shown,
-        unread,
-    } = counts;
-    writeln!(
-        out,
-        "{right} ok, {wrong} wrong, {shown} shown, {unread} unread"
-    )?;
+    writeln!(out, "{counts}")?;
     out.flush()?;
     Ok(())
 }

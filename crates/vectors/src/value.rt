@@ -1,28 +1,28 @@
 // The value of a case, computed by the proved libraries.
 use crate::case::{Case, Make, Task};
+use crate::fault::Trouble;
 use byte_text::Hex;
 use chain::{derive, down, tag};
 use cipher::{Block, Key};
 use packet::{Answer, Data, Disclosure, Packet, Request, read};
 use refusal::Refusal;
 use source::{KeySource, Pebbled, Table};
-use std::alloc::{AllocError, Global};
+use std::alloc::Global;
 use std::fmt;
+use std::fmt::Write;
 
-#[derive(Drop)]
-pub enum Value {
-    Text(String),
-    Refused(Refusal),
-}
+// A value is text, or the refusal of a library.
+pub type Value = Result<String, Refusal>;
 
-impl fmt::Display for Value {
+// Prints a value, a refusal by its number.
+#[derive(Clone, Copy)]
+pub struct Shown<'a>(pub &'a Value);
+
+impl fmt::Display for Shown<'_> {
     fn fmt<W: fmt::Write>(&self, f: &mut fmt::Formatter<W>) -> fmt::Result {
-        match self {
-            Value::Text(text) => write!(f, "{text}"),
-            Value::Refused(refusal) => {
-                let number = refusal.number();
-                write!(f, "refused {number}")
-            }
+        match self.0 {
+            Ok(text) => f.write_str(text.as_str()),
+            Err(refusal) => write!(f, "refused {}", refusal.number()),
         }
     }
 }
@@ -40,120 +40,84 @@ impl fmt::Display for Given<'_> {
     }
 }
 
-fn request_text(heap: Global, p: Request) -> Result<String, AllocError> {
-    let nonce = p.nonce;
-    format!(in heap; "request, nonce {}", Hex(nonce))
-}
-
-fn answer_text(heap: Global, p: Answer) -> Result<String, AllocError> {
-    let Answer {
-        time,
-        key,
-        interval,
-        start,
-        duration,
-        delay,
-        tag,
-    } = p;
-    let key = Hex(key);
-    let tag = Hex(tag);
-    format!(in heap;
-        "answer, time {time}, key {key}, interval {interval}, start {start}, duration {duration}, delay {delay}, tag {tag}"
-    )
-}
-
-fn data_text(heap: Global, p: Data) -> Result<String, AllocError> {
-    let Data {
-        interval,
-        number,
-        payload,
-        tag,
-    } = p;
-    let payload = Given(payload);
-    let tag = Hex(tag);
-    format!(in heap; "data, interval {interval}, number {number}, payload {payload}, tag {tag}")
-}
-
-fn key_text(heap: Global, p: Disclosure) -> Result<String, AllocError> {
-    let Disclosure { interval, key } = p;
-    let key = Hex(key);
-    format!(in heap; "key, interval {interval}, key {key}")
-}
-
 // A packet's kind and fields in words.
-fn packet_text(heap: Global, packet: Packet) -> Result<String, AllocError> {
-    match packet {
-        Packet::Request(p) => request_text(heap, p),
-        Packet::Answer(p) => answer_text(heap, p),
-        Packet::Data(p) => data_text(heap, p),
-        Packet::Key(p) => key_text(heap, p),
-    }
-}
+#[derive(Clone, Copy)]
+struct Words<'a>(Packet<'a>);
 
-fn text(heap: Global, bytes: &[u8]) -> Result<Value, AllocError> {
-    Ok(Value::Text(format!(in heap; "{}", Hex(bytes))?))
-}
-
-fn under<B: Block>(heap: Global, key: Key, task: &Task) -> Result<Value, AllocError> {
-    match task {
-        Task::Encrypt(block) => text(heap, &B::keyed(key).encrypt(*block)[0..B::width()]),
-        Task::Tag(message) => match tag::<B>(key, message) {
-            Ok(bytes) => text(heap, &bytes),
-            Err(refusal) => Ok(Value::Refused(refusal)),
-        },
-        Task::Derive(purpose) => text(heap, &derive::<B>(key, *purpose).to_bytes()),
-        Task::Down(count) => text(heap, &down::<B>(key, *count).to_bytes()),
-    }
-}
-
-fn packet_value(heap: Global, bytes: &[u8]) -> Result<Value, AllocError> {
-    match read(bytes) {
-        Ok(packet) => Ok(Value::Text(packet_text(heap, packet)?)),
-        Err(refusal) => Ok(Value::Refused(refusal)),
+impl fmt::Display for Words<'_> {
+    fn fmt<W: fmt::Write>(&self, f: &mut fmt::Formatter<W>) -> fmt::Result {
+        match self.0 {
+            Packet::Request(Request { nonce }) => write!(f, "request, nonce {}", Hex(nonce)),
+            Packet::Answer(
+                Answer {
+                    time,
+                    key,
+                    interval,
+                    start,
+                    duration,
+                    delay,
+                    tag,
+                },
+            ) => {
+                let (key, tag) = (Hex(key), Hex(tag));
+                write!(
+                    f,
+                    "answer, time {time}, key {key}, interval {interval}, start {start}, duration {duration}, delay {delay}, tag {tag}"
+                )
+            }
+            Packet::Data(
+                Data {
+                    interval,
+                    number,
+                    payload,
+                    tag,
+                },
+            ) => {
+                let (payload, tag) = (Given(payload), Hex(tag));
+                write!(
+                    f,
+                    "data, interval {interval}, number {number}, payload {payload}, tag {tag}"
+                )
+            }
+            Packet::Key(Disclosure { interval, key }) => {
+                write!(f, "key, interval {interval}, key {}", Hex(key))
+            }
+        }
     }
 }
 
 // Every key of an unused source with the steps that it took, and the sum of the steps.
-fn drawn<S: KeySource + Drop>(heap: Global, source: S) -> Result<Value, AllocError> {
-    let mut source = source;
+fn drawn<S: KeySource + Drop>(heap: Global, mut source: S) -> Result<String, Trouble<Refusal>> {
     let mut text = String::new(heap);
-    let mut sum: u32 = 0;
+    let mut sum = 0u32;
     for _ in 0..source.count() {
-        match source.next() {
-            Ok((key, steps)) => {
-                let piece = format!(in heap; "{} {steps}, ", Hex(&key.to_bytes()))?;
-                text.push_str(piece.as_str())?;
-                sum = sum.saturating_add(steps);
-            }
-            Err(refusal) => return Ok(Value::Refused(refusal)),
-        }
+        let (key, steps) = source.next()?;
+        write!(text, "{} {steps}, ", Hex(&key.to_bytes()))?;
+        sum = sum.saturating_add(steps);
     }
-    let last = format!(in heap; "sum {sum}")?;
-    text.push_str(last.as_str())?;
-    Ok(Value::Text(text))
+    write!(text, "sum {sum}")?;
+    Ok(text)
 }
 
-fn pebbled<B: Block>(heap: Global, last: Key, k: u32) -> Result<Value, AllocError> {
-    match Pebbled::<B>::make(last, k) {
-        Ok(source) => drawn(heap, source),
-        Err(refusal) => Ok(Value::Refused(refusal)),
-    }
+fn hex(heap: Global, bytes: &[u8]) -> Result<String, Trouble<Refusal>> {
+    Ok(Hex(bytes).to_string(heap)?)
 }
 
-fn table(heap: Global, keys: &Vec<Key>) -> Result<Value, AllocError> {
-    match Table::new(keys.clone()?) {
-        Ok(source) => drawn(heap, source),
-        Err((refusal, _)) => Ok(Value::Refused(refusal)),
+fn under<B: Block>(heap: Global, key: Key, task: Task) -> Result<String, Trouble<Refusal>> {
+    match task {
+        Task::Encrypt(block) => hex(heap, &B::keyed(key).encrypt(block)[..B::width()]),
+        Task::Tag(message) => hex(heap, &tag::<B>(key, &message)?),
+        Task::Derive(purpose) => hex(heap, &derive::<B>(key, purpose).to_bytes()),
+        Task::Down(count) => hex(heap, &down::<B>(key, count).to_bytes()),
+        Task::Pebbled(k) => drawn(heap, Pebbled::<B>::make(key, k)?),
     }
 }
 
-pub(crate) fn value_of(heap: Global, case: &Case) -> Result<Value, AllocError> {
+pub(crate) fn value_of(heap: Global, case: Case) -> Result<String, Trouble<Refusal>> {
     match case {
-        Case::Cipher(Make::Rc5, key, task) => under::<cipher::Rc5>(heap, *key, task),
-        Case::Cipher(Make::Adding, key, task) => under::<cipher::Adding>(heap, *key, task),
-        Case::Packet(bytes) => packet_value(heap, bytes),
-        Case::Pebbled(Make::Rc5, key, k) => pebbled::<cipher::Rc5>(heap, *key, *k),
-        Case::Pebbled(Make::Adding, key, k) => pebbled::<cipher::Adding>(heap, *key, *k),
-        Case::Table(keys) => table(heap, keys),
+        Case::Cipher(Make::Rc5, key, task) => under::<cipher::Rc5>(heap, key, task),
+        Case::Cipher(Make::Adding, key, task) => under::<cipher::Adding>(heap, key, task),
+        Case::Packet(bytes) => Ok(Words(read(&bytes)?).to_string(heap)?),
+        Case::Table(keys) => drawn(heap, Table::new(keys).map_err(|(refusal, _)| refusal)?),
     }
 }

@@ -1,0 +1,89 @@
+// The needle bed: a base whose two sources draw from one chain, and tell what they send.
+use crate::sent::{MAX_PACKET, Sent};
+use anyhow::anyhow;
+use base::Base;
+use chain::down;
+use cipher::{Key, Rc5};
+use refusal::Numbered;
+use source::Pebbled;
+
+// The chain has 2^4 keys; the last is chosen, and all others follow from it.
+const BITS: u32 = 4;
+
+const COUNT: u32 = 1 << BITS;
+
+const LAST: Key = Key {
+    high: 0x0011223344556677,
+    low: 0x8899aabbccddeeff,
+};
+// Interval 0 begins at this time; an interval lasts 100,000; a key is disclosed two intervals after its own.
+pub const START: u64 = 1_000_000;
+
+pub const DURATION: u32 = 100_000;
+
+pub const DELAY: u8 = 2;
+
+#[derive(Drop)]
+pub struct Bed {
+    base: Base<Rc5, Pebbled<Rc5>, Pebbled<Rc5>>,
+}
+
+// A source of the chain that has given no key yet.
+fn new_source(of: &str) -> anyhow::Result<Pebbled<Rc5>> {
+    Pebbled::make(LAST, BITS).map_err(|_| anyhow!("the chain of {of} cannot be made"))
+}
+
+impl Bed {
+    pub(crate) fn new() -> anyhow::Result<Bed> {
+        let commitment = down::<Rc5>(LAST, COUNT);
+        let first = new_source("the orders")?;
+        let second = new_source("the keys")?;
+        let made = Base::new(first, second, commitment, START, DURATION, DELAY);
+        let base = made.map_err(|_| anyhow!("the base cannot be made"))?;
+        Ok(Bed { base })
+    }
+
+    // The base makes an order, and what it wrote is sent.
+    pub(crate) fn order(
+        &mut self,
+        rt: &HostRuntime,
+        time: u64,
+        payload: &str,
+    ) -> anyhow::Result<Sent> {
+        let mut buffer = [0; MAX_PACKET];
+        let made = self.base.make(time, payload.as_bytes(), &mut buffer);
+        match made {
+            Ok(length) => println!(rt; "{time} base makes \"{payload}\": {length} bytes")?,
+            Err(refusal) => println!(rt; "{time} base makes an order: {}", Numbered(refusal))?,
+        }
+        Ok(Sent::front(rt.alloc(), &buffer, made.unwrap_or(0))?)
+    }
+
+    pub(crate) fn disclose(&mut self, rt: &HostRuntime, time: u64) -> anyhow::Result<Sent> {
+        let mut buffer = [0; MAX_PACKET];
+        let disclosed = self.base.disclose(time, &mut buffer);
+        let sent = Sent::front(rt.alloc(), &buffer, disclosed.unwrap_or(0))?;
+        match disclosed {
+            Ok(_) => println!(rt;
+                "{time} base discloses the key of interval {}",
+                sent.interval()
+            )?,
+            Err(refusal) => println!(rt; "{time} base discloses a key: {}", Numbered(refusal))?,
+        }
+        Ok(sent)
+    }
+
+    // The base answers a node that asks to join.
+    pub(crate) fn answer(
+        &mut self,
+        rt: &HostRuntime,
+        time: u64,
+        pair: Key,
+        asked: &Sent,
+    ) -> anyhow::Result<Sent> {
+        let mut buffer = [0; MAX_PACKET];
+        let answered = self.base.answer(time, pair, asked.packet(), &mut buffer);
+        let length = answered.map_err(|_| anyhow!("the answer is refused"))?;
+        Ok(Sent::front(rt.alloc(), &buffer, length)?)
+    }
+}
