@@ -50,9 +50,7 @@ fn is_rhythm(answer: &Answer) -> bool
 fn is_schedule(answer: &Answer) -> bool
     ensures { result ≡ schedule_fits (answer_said answer.now) }
 {
-    is_rhythm(answer)
-        && answer.interval <= LAST
-        && in_order(answer.start, answer.time)
+    is_rhythm(answer) && answer.interval <= LAST && in_order(answer.start, answer.time)
 }
 
 impl Requesting {

@@ -31,8 +31,7 @@ module _ (cipher : Make) (r r' : Receiver) (before after : List ℕ) where
           let all : Unfolds cipher r none = subst (Unfolds cipher r) (sym h.says) (unfolds cipher r) in
           (all.0, ap receiving (all.1 ∙ sym h.leaves))
       go (Some x) h =
-          let all : Unfolds cipher r (released_says x after) = subst (Unfolds cipher r) (sym h.says) (unfolds cipher r) in
-          (
+          let all : Unfolds cipher r (released_says x after) = subst (Unfolds cipher r) (sym h.says) (unfolds cipher r) in (
             subst (λ q. released cipher r (until_none cipher r) ≡ released_says x after ∷ released cipher q (until_none cipher q)) (sym h.leaves) all.0,
             ap receiving (subst (λ q. afterwards cipher r (until_none cipher r) ≡ afterwards cipher q (until_none cipher q)) (sym h.leaves) all.1),
           )
