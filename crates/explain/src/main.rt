@@ -14,7 +14,7 @@ use out::Out;
 use packet::MAX_PAYLOAD;
 use playback::{MAX_CAPTURE, Step, Walk, open};
 use std::io;
-use std::io::{BufWriter, ErrorKind, Stdout, Write};
+use std::io::{BufWriter, Stdout, Write};
 use std::process::ExitCode;
 use tally::Tally;
 
@@ -27,11 +27,7 @@ fn run(rt: &HostRuntime) -> Result<(), Fault> {
     let capture = standard_input(rt, MAX_CAPTURE)?;
     let records = open(&capture)?;
     let walk = Walk::<Rc5>::new(pair, records);
-    match print(rt, walk, capture.len()) {
-        Ok(()) => Ok(()),
-        Err(e) if e.kind() == ErrorKind::OutOfMemory => Err(Fault::NoMemory),
-        Err(e) => Err(Fault::Unwritten(e)),
-    }
+    print(rt, walk, capture.len()).map_err(|e| Fault::of(e, Fault::Unwritten(e)))
 }
 
 fn print(rt: &HostRuntime, walk: Walk<'_, Rc5>, total: usize) -> io::Result<()> {
@@ -52,21 +48,17 @@ fn print_steps(
 ) -> io::Result<Tally> {
     let mut tally = Tally::new(total);
     let mut payload = [0; MAX_PAYLOAD];
-    for _ in 0..u64::MAX {
-        let Some(step) = walk.next(&mut payload) else {
-            break;
-        };
+    while let Some(step) = walk.next(&mut payload) {
         tally.count(step);
         match step {
             Step::Heard(record, outcome) => writeln!(out, "{}", Heard { record, outcome })?,
-            Step::Out(moment, released) => {
-                let end = released.length.min(MAX_PAYLOAD);
-                let payload = &payload[0..end];
+            Step::Out(at, released) => {
+                let payload = &payload[..released.length];
                 writeln!(
                     out,
                     "{}",
                     Out {
-                        moment,
+                        at,
                         released,
                         payload
                     }

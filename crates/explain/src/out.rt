@@ -1,13 +1,12 @@
 // The line for a packet that went out: when, which one, whether it is true, and then its payload.
 use byte_text::Readable;
-use inputs::Time;
+use capture::Time;
 use node::Released;
-use playback::Moment;
 use std::fmt;
 
 #[derive(Clone, Copy)]
 pub struct Out<'a> {
-    pub moment: Moment,
+    pub at: Time,
     pub released: Released,
     pub payload: &'a [u8],
 }
@@ -15,17 +14,13 @@ pub struct Out<'a> {
 impl fmt::Display for Out<'_> {
     fn fmt<W: fmt::Write>(&self, f: &mut fmt::Formatter<W>) -> fmt::Result {
         let Out {
-            moment,
+            at,
             released,
             payload,
         } = *self;
-        let time = Time {
-            seconds: moment.seconds,
-            micros: moment.micros,
-        };
         let interval = released.interval;
         let number = released.number;
-        write!(f, "{time} out: interval {interval}, number {number}, ")?;
+        write!(f, "{at} out: interval {interval}, number {number}, ")?;
         if released.verdict {
             write!(f, "true, {}", Readable(payload))
         } else {

@@ -4,10 +4,10 @@
 
 use byte_text::Readable;
 use capture::{Record, Records};
-use inputs::{Fault, Time, Unread, standard_input, status, tell};
+use inputs::{Fault, Unread, standard_input, status, tell};
 use playback::{MAX_CAPTURE, open};
 use std::io;
-use std::io::{BufWriter, ErrorKind, Stdout, Write};
+use std::io::{BufWriter, Stdout, Write};
 use std::process::ExitCode;
 
 fn main(rt: HostRuntime) -> ExitCode {
@@ -17,11 +17,7 @@ fn main(rt: HostRuntime) -> ExitCode {
 fn run(rt: &HostRuntime) -> Result<(), Fault> {
     let capture = standard_input(rt, MAX_CAPTURE)?;
     let records = open(&capture)?;
-    match print(rt, records, capture.len()) {
-        Ok(()) => Ok(()),
-        Err(e) if e.kind() == ErrorKind::OutOfMemory => Err(Fault::NoMemory),
-        Err(e) => Err(Fault::Unwritten(e)),
-    }
+    print(rt, records, capture.len()).map_err(|e| Fault::of(e, Fault::Unwritten(e)))
 }
 
 fn print(rt: &HostRuntime, mut records: Records<'_>, total: usize) -> io::Result<()> {
@@ -39,16 +35,8 @@ fn print(rt: &HostRuntime, mut records: Records<'_>, total: usize) -> io::Result
 // A line for each record, and how many there are.
 fn print_orders(out: &mut BufWriter<Stdout>, records: &mut Records<'_>) -> io::Result<u64> {
     let mut count = 0u64;
-    for _ in 0..u64::MAX {
-        let Some(record) = records.next() else {
-            break;
-        };
-        let Record {
-            seconds,
-            micros,
-            bytes,
-        } = record;
-        writeln!(out, "{} {}", Time { seconds, micros }, Readable(bytes))?;
+    for Record { at, bytes } in records {
+        writeln!(out, "{at} {}", Readable(bytes))?;
         count = count.saturating_add(1);
     }
     Ok(count)

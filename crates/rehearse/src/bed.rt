@@ -1,7 +1,7 @@
 // The needle bed: a base whose two sources draw from one chain, and tell what they send.
 use crate::sent::{MAX_PACKET, Sent};
 use anyhow::anyhow;
-use base::Base;
+use base::{Base, Schedule};
 use chain::down;
 use cipher::{Key, Rc5};
 use refusal::Numbered;
@@ -17,11 +17,11 @@ const LAST: Key = Key {
     low: 0x8899aabbccddeeff,
 };
 // Interval 0 begins at this time; an interval lasts 100,000; a key is disclosed two intervals after its own.
-pub const START: u64 = 1_000_000;
-
-pub const DURATION: u32 = 100_000;
-
-pub const DELAY: u8 = 2;
+pub(crate) const SCHEDULE: Schedule = Schedule {
+    start: 1_000_000,
+    duration: 100_000,
+    delay: 2,
+};
 
 #[derive(Drop)]
 pub struct Bed {
@@ -38,7 +38,7 @@ impl Bed {
         let commitment = down::<Rc5>(LAST, COUNT);
         let first = new_source("the orders")?;
         let second = new_source("the keys")?;
-        let made = Base::new(first, second, commitment, START, DURATION, DELAY);
+        let made = Base::new(first, second, commitment, SCHEDULE);
         let base = made.map_err(|_| anyhow!("the base cannot be made"))?;
         Ok(Bed { base })
     }

@@ -11,7 +11,8 @@ mod saving;
 mod sent;
 
 use anyhow::ensure;
-use bed::{Bed, DELAY, DURATION, START};
+use base::Schedule;
+use bed::{Bed, SCHEDULE};
 use carriage::{Carriage, Clock};
 use options::capture_file;
 use rehearsal::Rehearsal;
@@ -19,8 +20,13 @@ use rehearsal::Rehearsal;
 fn run(rt: &HostRuntime) -> anyhow::Result<()> {
     let file = capture_file(rt)?;
     let mut bed = Bed::new()?;
+    let Schedule {
+        start,
+        duration,
+        delay,
+    } = SCHEDULE;
     println!(rt;
-        "The base starts at {START}; an interval lasts {DURATION}; keys are disclosed {DELAY} intervals later."
+        "The base starts at {start}; an interval lasts {duration}; keys are disclosed {delay} intervals later."
     )?;
     let mut a = Carriage::join(rt, &mut bed, "carriage A", Clock(-300_000), 1_050_000)?;
     let early = bed.disclose(rt, 1_300_500)?;
