@@ -25,13 +25,9 @@ impl ByteOrder {
     fn of_marks(bytes: &[u8]) -> Option<ByteOrder>
         ensures { MarkedIn bytes.now result }
     {
-        if bytes.starts_with(&ByteOrder::Little.marks()) {
-            Some(ByteOrder::Little)
-        } else if bytes.starts_with(&ByteOrder::Big.marks()) {
-            Some(ByteOrder::Big)
-        } else {
-            None
-        }
+        [ByteOrder::Little, ByteOrder::Big]
+            .into_iter()
+            .find(|order| bytes.starts_with(&order.marks()))
     }
 }
 

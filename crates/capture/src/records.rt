@@ -7,6 +7,7 @@ ghost use Rattle.capture.specs.Ahead.{unread, ahead, GivesRecord};
 use crate::forms::{Record, RecordFormat};
 use std::iter::FusedIterator;
 
+// What a copy of it takes is not taken off the original.
 #[derive(Clone, Copy, PartialEq, Eq, Debug)]
 pub struct Records<'a> {
     format: RecordFormat,
