@@ -42,10 +42,7 @@ module _ {X : Type 0} (step : X → X) (top : X) (k room : ℕ) (some : 1 ≤ k)
   -- a level that call g + 1 does not serve stands as it was lowered
   not_served : (g j : ℕ) → 0 < j → (suc g ≡ next_target (2 ^ j) (served g (2 ^ j)) → ⊥)
       → standing chain (2 ^ k) (2 ^ j) (served g (2 ^ j)) (suc (since g (2 ^ j))) ≡ standing_after chain (2 ^ k) (suc g) (2 ^ j)
-  not_served g j pos other =
-      ⊎_elim (λ below. sym (standing_next chain (2 ^ k) g (2 ^ j) (pow_pos j) below))
-      (λ last. absurd (other (served_at g (2 ^ j) (pow_pos j) (omega (arith, counted g (2 ^ j) (pow_pos j))))))
-      (cases_lt (suc (since g (2 ^ j))) (2 * 2 ^ j))
+  not_served g j pos other = grind (arith, standing_next, served_at, counted, pow_pos)
 
   row_odd : (g : ℕ) → (g + 1) % 2 ≡ 1 → between g ≡ before (suc g)
   row_odd g odd =

@@ -1,5 +1,5 @@
 -- A call of a pebbled key source in the forms that code has it: levels are read and written by index.
-use Rattle.std.proofs.Common.{◌≡◌, ℕ, ◌+◌, ◌-◌, ◌*◌, ◌%◌, ◌^◌, ◌<◌, ◌≤◌, Bool, true, false, cond, not, ltb, map, length, get_or, set, Some, None, Option, All, option_map, sym, refl, ap, ◌∙◌, subst, ap₂, arith}
+use Rattle.std.proofs.Common.{◌≡◌, ℕ, ◌+◌, ◌-◌, ◌*◌, ◌%◌, ◌^◌, ◌<◌, ◌≤◌, Bool, true, false, cond, not, ltb, map, length, get_or, set, Some, None, Option, All, sym, refl, ap, ◌∙◌, subst, ap₂, arith}
 use Rattle.std.proofs.Math.ListN.{get_or-map}
 use Rattle.std.proofs.lemmas.List.{length-map}
 use Rattle.std.proofs.lemmas.List.FromFn.{length-map-range_with_len}
@@ -47,15 +47,7 @@ in_use (Some x) l e = go x.away refl e
 -- a level is there, if it is there without its key
 found : {X Y : Type 0} (o : Y) (ls : Levels X) (j : ℕ) (d : Level X) (l : Level Y) → level (map (bare o) ls) j ≡ Some l
     → (level ls j ≡ Some (get_or ls (j - 1) d)) × ((get_or ls (j - 1) d).away ≡ false)
-found {X} o ls j d l e = go (level ls j) refl (sym (bare_level o ls j) ∙ e)
-  where
-    go : (p : Option (Level X)) → level ls j ≡ p → option_map (bare o) p ≡ Some l
-        → (level ls j ≡ Some (get_or ls (j - 1) d)) × ((get_or ls (j - 1) d).away ≡ false)
-    go None is e = absurd (none-some l e)
-    go (Some x) is e =
-        let here = in_use (slice_get ls (j - 1)) x is in
-        let at = get_or_from_slice_get ls (j - 1) x d here.0 in
-        (is ∙ ap Some (sym at), ap (λ l. l.away) at ∙ here.1)
+found {X} o ls j d l e = grind (arith, in_use, bare_level, get_or_from_slice_get)
 
 -- the call after g, where code has the levels ls and has lowered them to `low` by `spent` steps
 pub record Midway {X Y : Type 0} (o : Y) (step : X → X) (k room g : ℕ) (ls low : Levels X) (spent : ℕ) : Type 0 where

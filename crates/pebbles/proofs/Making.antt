@@ -14,7 +14,7 @@ pub key_at_last : {X : Type 0} (step : X → X) (top : X) (k : ℕ) → key_at s
 key_at_last step top k = ap (down step top) (sub_self (2 ^ k))
 
 pub key_at_below : {X : Type 0} (step : X → X) (top : X) (k place : ℕ) → 0 < place → place ≤ 2 ^ k → step (key_at step top k place) ≡ key_at step top k (place - 1)
-key_at_below step top k place pos within = let less : suc (2 ^ k - place) ≡ 2 ^ k - (place - 1) = omega arith in ap (down step top) less
+key_at_below step top k place pos within = grind arith
 
 -- a walk down is a walk to a place and one from there
 pub down_down : {X : Type 0} (step : X → X) (top : X) (a b : ℕ) → down step (down step top a) b ≡ down step top (b + a)
@@ -23,9 +23,7 @@ down_down step top a (suc b) = ap step (down_down step top a b) ∙ ap (down ste
 
 pub key_at_walk : {X : Type 0} (step : X → X) (top : X) (k from to : ℕ) → to ≤ from → from ≤ 2 ^ k
     → down step (key_at step top k from) (from - to) ≡ key_at step top k to
-key_at_walk step top k from to below within =
-    let sum : from - to + (2 ^ k - from) ≡ 2 ^ k - to = omega arith in
-    down_down step top (2 ^ k - from) (from - to) ∙ ap (down step top) sum
+key_at_walk step top k from to below within = grind (arith, down_down)
 
 -- the walk has come down to a place, 2 ^ j at least, and the levels from index j on are those of an unused source; the list is read with the default d
 pub record MadeFrom {X : Type 0} (step : X → X) (top : X) (k room : ℕ) (d : Level X) (j : ℕ) (ls : Levels X) (key : X) (place : ℕ) : Type 0 where
@@ -51,9 +49,7 @@ module _ {X : Type 0} {step : X → X} {top : X} {k room : ℕ} {d : Level X} {j
   -- the turn that fills level j
   module _ (lower : ℕ) (after : X) (pos : 0 < j) (in_use : j ≤ k) (fits : k ≤ room) (e : lower ≡ 2 ^ j) (walked : after ≡ down step key (place - lower)) where
     walked_to : after ≡ key_at step top k lower
-    walked_to =
-        walked ∙ ap (λ x. down step x (place - lower)) so_far.of_chain
-        ∙ key_at_walk step top k place lower (omega (arith, so_far.above)) so_far.within
+    walked_to = grind (arith, key_at_walk)
 
     abbrev filled : Level X
     filled = record { key = after; place = lower; target = lower; away = false }

@@ -1,5 +1,5 @@
 -- What a call asks for stands, at its place, among the lowered levels of the closed form.
-use Rattle.std.proofs.Common.{◌≡◌, ℕ, zero, suc, ◌+◌, ◌-◌, ◌*◌, ◌%◌, ◌^◌, ◌<◌, ◌≤◌, map, Some, ap, ◌∙◌, suc-mul, mul_comm, mul-add, mul_left_comm, arith, pow_pos, pow_mono}
+use Rattle.std.proofs.Common.{◌≡◌, ℕ, zero, suc, ◌+◌, ◌-◌, ◌*◌, ◌%◌, ◌^◌, ◌<◌, ◌≤◌, map, Some, ap, ◌∙◌, suc-mul, arith, pow_pos, pow_mono}
 use native.Mathlib.Nat.{pow-succ'}
 use Rattle.std.proofs.lemmas.Nat.{pow_below}
 use Rattle.std.specs.List.{range_with_len}
@@ -35,10 +35,7 @@ refill_place k i small pos within even goes_on =
 
 -- what refills a level of stride 2 ^ j after the place i comes from a level of a larger stride
 larger : (i j m v m' : ℕ) → i ≡ next_target (2 ^ j) m → i + 3 * 2 ^ j ≡ next_target (2 ^ v) m' → 2 * 2 ^ j ≤ 2 ^ v
-larger i j m v m' e e' =
-    let halves : 2 ^ suc j * (m + 2) ≡ 2 ^ v * (2 * m' + 1) =
-    omega (arith, twice_power j (m + 2), target_stride (2 ^ j) m, mul-add (2 ^ j) m 2, mul_left_comm m 2 (2 ^ j), mul_comm m (2 ^ j)) in
-    omega (arith, pow_mono (zeros_at_least (suc j) v (m + 2) m' halves), pow-succ' 2 j)
+larger i j m v m' e e' = grind (arith, zeros_at_least (suc j) v (m + 2) m', pow_mono, pow-succ' 2 j, twice_power j (m + 2))
 
 -- the levels after those of g keys went down
 abbrev pub lowered_levels : {X : Type 0} → (ℕ → X) → ℕ → ℕ → ℕ → Levels X
