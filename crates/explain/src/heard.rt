@@ -1,30 +1,16 @@
 // The line for a record: its time, its kind and what the node made of it.
-use crate::kind::{Kind, kind_of};
+use crate::kind::Kind;
 use capture::Record;
 use inputs::Time;
+use packet::read;
 use playback::Outcome;
+use refusal::Numbered;
 use std::fmt;
 
 #[derive(Clone, Copy)]
 pub struct Heard<'a> {
     pub record: Record<'a>,
     pub outcome: Outcome,
-}
-
-// What the node has yet to do before it can use a packet of this kind.
-fn still_to_do(kind: Kind) -> &'static str {
-    match kind {
-        Kind::Answer { .. } => "the node has not asked yet",
-        _ => "the node has not joined yet",
-    }
-}
-
-// What the node did before, so that a packet of this kind comes again.
-fn done_before(kind: Kind) -> &'static str {
-    match kind {
-        Kind::Answer { .. } => "the node has joined before",
-        _ => "the node has asked before",
-    }
 }
 
 impl fmt::Display for Heard<'_> {
@@ -34,12 +20,12 @@ impl fmt::Display for Heard<'_> {
             seconds: record.seconds,
             micros: record.micros,
         };
-        let kind = kind_of(record.bytes);
+        let kind = Kind(read(record.bytes).ok());
         write!(f, "{time} {kind}: ")?;
         match outcome {
-            Outcome::Refused(refusal) => write!(f, "refused {}, {refusal}", refusal.number()),
-            Outcome::TooSoon => write!(f, "passed over, {}", still_to_do(kind)),
-            Outcome::Repeated => write!(f, "passed over, {}", done_before(kind)),
+            Outcome::Refused(refusal) => write!(f, "{}", Numbered(refusal)),
+            Outcome::TooSoon => write!(f, "passed over, {}", kind.still_to_do()),
+            Outcome::Repeated => write!(f, "passed over, {}", kind.done_before()),
             Outcome::Asked => f.write_str("granted, the node asks to join"),
             Outcome::Joined => f.write_str("granted, the node has joined"),
             Outcome::Held(count) => write!(f, "granted, held {count}"),

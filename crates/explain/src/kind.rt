@@ -1,43 +1,49 @@
 // The kind of what was heard, with the numbers by which a packet is known.
-use packet::{Packet, read};
+use packet::{Answer, Data, Disclosure, Packet};
 use std::fmt;
 
+// There is none where the bytes are no packet.
 #[derive(Clone, Copy)]
-pub enum Kind {
-    Request,
-    Answer { interval: u16 },
-    Data { interval: u16, number: u8 },
-    Key { interval: u16 },
-    NoPacket,
-}
+pub struct Kind<'a>(pub Option<Packet<'a>>);
 
-pub(crate) fn kind_of(bytes: &[u8]) -> Kind {
-    match read(bytes) {
-        Ok(Packet::Request(_)) => Kind::Request,
-        Ok(Packet::Answer(answer)) => Kind::Answer {
-            interval: answer.interval,
-        },
-        Ok(Packet::Data(data)) => Kind::Data {
-            interval: data.interval,
-            number: data.number,
-        },
-        Ok(Packet::Key(disclosed)) => Kind::Key {
-            interval: disclosed.interval,
-        },
-        Err(_) => Kind::NoPacket,
+impl Kind<'_> {
+    // What the node has yet to do before it can use a packet of this kind.
+    pub(crate) fn still_to_do(&self) -> &'static str {
+        match self.0 {
+            Some(Packet::Answer(_)) => "the node has not asked yet",
+            _ => "the node has not joined yet",
+        }
+    }
+
+    // What the node did before, so that a packet of this kind comes again.
+    pub(crate) fn done_before(&self) -> &'static str {
+        match self.0 {
+            Some(Packet::Answer(_)) => "the node has joined before",
+            _ => "the node has asked before",
+        }
     }
 }
 
-impl fmt::Display for Kind {
+impl fmt::Display for Kind<'_> {
     fn fmt<W: fmt::Write>(&self, f: &mut fmt::Formatter<W>) -> fmt::Result {
-        match self {
-            Kind::Request => f.write_str("request"),
-            Kind::Answer { interval } => write!(f, "answer, interval {interval}"),
-            Kind::Data { interval, number } => {
-                write!(f, "data, interval {interval}, number {number}")
+        match self.0 {
+            Some(Packet::Request(_)) => f.write_str("request"),
+            Some(Packet::Answer(Answer { interval, .. })) => {
+                write!(f, "answer, interval {interval}")
             }
-            Kind::Key { interval } => write!(f, "key, interval {interval}"),
-            Kind::NoPacket => f.write_str("no packet"),
+            Some(
+                Packet::Data(
+                    Data {
+                        interval,
+                        number,
+                        ..
+                    },
+                ),
+            ) => { write!(f, "data, interval {interval}, number {number}") }
+            Some(Packet::Key(Disclosure { interval, .. })) => {
+                write!(f, "key, interval {interval}")
+            }
+            None => f.write_str("no packet"),
         }
     }
 }

@@ -14,7 +14,7 @@ use out::Out;
 use packet::MAX_PAYLOAD;
 use playback::{MAX_CAPTURE, Step, Walk, open};
 use std::io;
-use std::io::{BufWriter, ErrorKind, Stdout, Write};
+use std::io::{BufWriter, Stdout, Write};
 use std::process::ExitCode;
 use tally::Tally;
 
@@ -27,11 +27,7 @@ fn run(rt: &HostRuntime) -> Result<(), Fault> {
     let capture = standard_input(rt, MAX_CAPTURE)?;
     let records = open(&capture)?;
     let walk = Walk::<Rc5>::new(pair, records);
-    match print(rt, walk, capture.len()) {
-        Ok(()) => Ok(()),
-        Err(e) if e.kind() == ErrorKind::OutOfMemory => Err(Fault::NoMemory),
-        Err(e) => Err(Fault::Unwritten(e)),
-    }
+    print(rt, walk, capture.len()).map_err(|e| Fault::of(e, Fault::Unwritten(e)))
 }
 
 fn print(rt: &HostRuntime, walk: Walk<'_, Rc5>, total: usize) -> io::Result<()> {
