@@ -7,7 +7,7 @@ use capture::{Record, Records};
 use inputs::{Fault, Time, Unread, standard_input, status, tell};
 use playback::{MAX_CAPTURE, open};
 use std::io;
-use std::io::{BufWriter, ErrorKind, Stdout, Write};
+use std::io::{BufWriter, Stdout, Write};
 use std::process::ExitCode;
 
 fn main(rt: HostRuntime) -> ExitCode {
@@ -17,11 +17,7 @@ fn main(rt: HostRuntime) -> ExitCode {
 fn run(rt: &HostRuntime) -> Result<(), Fault> {
     let capture = standard_input(rt, MAX_CAPTURE)?;
     let records = open(&capture)?;
-    match print(rt, records, capture.len()) {
-        Ok(()) => Ok(()),
-        Err(e) if e.kind() == ErrorKind::OutOfMemory => Err(Fault::NoMemory),
-        Err(e) => Err(Fault::Unwritten(e)),
-    }
+    print(rt, records, capture.len()).map_err(|e| Fault::of(e, Fault::Unwritten(e)))
 }
 
 fn print(rt: &HostRuntime, mut records: Records<'_>, total: usize) -> io::Result<()> {
