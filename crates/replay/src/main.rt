@@ -17,8 +17,5 @@ fn run(rt: &HostRuntime) -> Result<(), Fault> {
     let mut out = vec![in rt.alloc(); 0u8; capture.len()]?;
     let counts = replay(pair, &capture, &mut out)?;
     let end = counts.written.min(out.len());
-    match rt.stdout().write_all(&out[0..end]) {
-        Ok(()) => Ok(()),
-        Err(e) => Err(Fault::Unwritten(e)),
-    }
+    rt.stdout().write_all(&out[..end]).map_err(Fault::Unwritten)
 }
