@@ -8,7 +8,7 @@ use source::KeySource;
 use std::marker::PhantomData;
 
 // The first source has given the key of the interval in which `made` packets were made, and the second the last key
-// disclosed.
+// disclosed. Which base of the rules it stands for is a relation and no field: sources that have given keys fit many.
 #[derive(Drop)]
 pub struct Base<B: Block, M: KeySource, D: KeySource> {
     pub(crate) making: Drawing<M>,

@@ -6,6 +6,7 @@ ghost use Rattle.capture.specs.Reading.{word_at};
 
 use crate::forms::ByteOrder;
 
+// Written here too: a public one, for packet and capture, would have to test its room again.
 #[tactic(auto, using(packet::proofs::BufferLaws::puts_mid))]
 pub(crate) fn put(out: &mut [u8], at: usize, part: &[u8])
     requires { at + length part.now ≤ length out.old }

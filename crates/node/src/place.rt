@@ -23,6 +23,7 @@ impl Slot {
         }
     }
 
+    // A packet is a plain record of the link's rules, so that its payload is short is asked of whoever hands one on.
     pub(crate) fn fill(&mut self, packet: &Data)
         requires { length packet.now.payload.now ≤ 64 }
         ensures { slot_said self.new ≡ data_said packet.now }

@@ -40,7 +40,7 @@ fn lower_levels<B: Block>(levels: &mut [Level<Key>; LEVELS]) -> u32
     steps
 }
 
-// The index of the level that serves an even place.
+// The index of the level that serves an even place. A place is a plain number, since strides are added to it.
 #[tactic(auto, using(crate::proofs::EvenPlaces::zeros_of_even))]
 fn index_of(place: u32) -> usize
     requires some { 0 < place }
