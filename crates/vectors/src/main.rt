@@ -22,13 +22,14 @@ struct Counts {
 
 impl Counts {
     fn count(&mut self, answer: &Answer) {
-        match answer {
-            Answer::Passed(_) => {}
-            Answer::Unread(_, _) => self.unread = self.unread.saturating_add(1),
-            Answer::Read(_, _, Verdict::Right) => self.right = self.right.saturating_add(1),
-            Answer::Read(_, _, Verdict::Wrong) => self.wrong = self.wrong.saturating_add(1),
-            Answer::Read(_, _, Verdict::Shown) => self.shown = self.shown.saturating_add(1),
-        }
+        let counter = match answer {
+            Answer::Passed(_) => return,
+            Answer::Unread(_, _) => &mut self.unread,
+            Answer::Read(_, _, Verdict::Right) => &mut self.right,
+            Answer::Read(_, _, Verdict::Wrong) => &mut self.wrong,
+            Answer::Read(_, _, Verdict::Shown) => &mut self.shown,
+        };
+        *counter = counter.saturating_add(1);
     }
 }
 
