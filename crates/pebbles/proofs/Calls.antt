@@ -1,7 +1,7 @@
 -- One call on levels in the closed form: its answer is the chain's key, it takes at most k steps, and the closed form is kept.
 use Rattle.std.proofs.Common.{◌≡◌, ℕ, suc, ◌+◌, ◌-◌, ◌*◌, ◌%◌, ◌^◌, ◌<◌, ◌≤◌, true, map, Some, sym, ap, ◌∙◌, subst, ⊎_elim, mul_left_comm, add-one, arith, pow_pos}
 use native.Mathlib.Nat.{pow-succ'}
-use Rattle.std.proofs.lemmas.Bool.{cases_lt, cond-true, cond-false, eq-eqb, ne_eqb}
+use Rattle.std.proofs.lemmas.Bool.{cases_lt}
 use Rattle.pebbles.specs.Levels.{Call, Levels, call, even_call, key_at, key_below, key_of, lowered, lowering_steps, moves, odd_call, refilled, with_level, zeros}
 use Rattle.pebbles.specs.Places.{next_target, served, since, standing, standing_after, standing_levels}
 use Rattle.pebbles.proofs.Making.{key_at_below}
@@ -21,11 +21,11 @@ pub record Good {X : Type 0} (chain : ℕ → X) (k room g : ℕ) (c : Call X) :
 module _ {X : Type 0} (step : X → X) (n i : ℕ) (ls : Levels X) where
   pub odd_form : i % 2 ≡ 1 → call step n i ls ≡ odd_call step i (lowering_steps ls) (map (lowered step) ls)
   unfolding call
-  odd_form odd = cond-false _ _ _ (ne_eqb (i % 2) 0 (λ e. omega arith))
+  odd_form odd = grind arith
 
   pub even_form : i % 2 ≡ 0 → call step n i ls ≡ even_call n i (lowering_steps ls) (map (lowered step) ls)
   unfolding call
-  even_form even = cond-true _ _ _ (eq-eqb (i % 2) 0 even)
+  even_form even = grind arith
 
 module _ {X : Type 0} (step : X → X) (top : X) (k room : ℕ) (some : 1 ≤ k) (small : k < 32) (fits : k ≤ room) where
   abbrev chain : ℕ → X
@@ -70,10 +70,10 @@ module _ {X : Type 0} (step : X → X) (top : X) (k room : ℕ) (some : 1 ≤ k)
   -- ---- one call
 
   call_odd : (g : ℕ) → (g + 1) % 2 ≡ 1 → call step (2 ^ k) (g + 1) (before g) ≡ odd_call step (g + 1) (lowering_steps (before g)) (between g)
-  call_odd g odd = odd_form step (2 ^ k) (g + 1) (before g) odd ∙ ap (odd_call step (g + 1) (lowering_steps (before g))) (row_lowered step top k room some small fits g)
+  call_odd g odd = grind (arith, odd_form, row_lowered)
 
   call_even : (g : ℕ) → (g + 1) % 2 ≡ 0 → call step (2 ^ k) (g + 1) (before g) ≡ even_call (2 ^ k) (g + 1) (lowering_steps (before g)) (between g)
-  call_even g even = even_form step (2 ^ k) (g + 1) (before g) even ∙ ap (even_call (2 ^ k) (g + 1) (lowering_steps (before g))) (row_lowered step top k room some small fits g)
+  call_even g even = grind (arith, even_form, row_lowered)
 
   steps_below : (g : ℕ) → lowering_steps (before g) ≤ k - 1
   steps_below g =

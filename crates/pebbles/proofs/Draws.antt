@@ -10,10 +10,7 @@ use Rattle.pebbles.proofs.Runs.{run, steps_counted}
 pub draws_next : {X : Type 0} (step : X → X) (d : X) (n c g : ℕ) (ls after : Levels X) (key : X) (taken : ℕ) → Gives (call step n (g + 1) ls) key taken after
     → 0 < c → draws step d n c g ls ≡ key ∷ draws step d n (c - 1) (g + 1) after
 unfolding draws
-draws_next step d n zero g ls after key taken gives pos = absurd (omega arith)
-draws_next step d n (suc c) g ls after key taken gives pos =
-    let one_less : c ≡ suc c - 1 = omega arith in
-    ap₂ ◌∷◌ (ap (or_else d) gives.answer) (ap₂ (λ m l. draws step d n m (g + 1) l) one_less gives.levels)
+draws_next step d n c g ls after key taken gives pos = grind arith
 
 -- the steps are those that the places tell
 pub steps_placed : {X Y : Type 0} (o : Y) (step : X → X) (k room g : ℕ) (ls : Levels X) → Placed o ls k room g

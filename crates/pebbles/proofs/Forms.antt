@@ -1,14 +1,14 @@
 -- A call of a pebbled key source in the forms that code has it: levels are read and written by index.
-use Rattle.std.proofs.Common.{◌≡◌, ℕ, ◌+◌, ◌-◌, ◌*◌, ◌%◌, ◌^◌, ◌<◌, ◌≤◌, Bool, true, false, cond, not, ltb, map, length, get_or, set, Some, None, Option, All, sym, refl, ap, ◌∙◌, subst, ap₂, arith}
+use Rattle.std.proofs.Common.{◌≡◌, ℕ, ◌+◌, ◌-◌, ◌*◌, ◌%◌, ◌^◌, ◌<◌, ◌≤◌, true, false, not, ltb, map, length, get_or, set, Some, None, Option, All, sym, ap, ◌∙◌, subst, arith}
 use Rattle.std.proofs.Math.ListN.{get_or-map}
 use Rattle.std.proofs.lemmas.List.{length-map}
 use Rattle.std.proofs.lemmas.List.FromFn.{length-map-range_with_len}
-use Rattle.std.proofs.lemmas.Option.{get_or_from_slice_get, none-some, slice_get-get_or}
+use Rattle.std.proofs.lemmas.Option.{get_or_from_slice_get, slice_get-get_or}
 use Rattle.std.proofs.lemmas.Bool.{cond-true, cond-false, and_parts, not-true, le-leb, lt-leb}
 use Rattle.std.specs.List.{slice_get}
 use Rattle.pebbles.specs.declared.level.Level.{Level}
 use Rattle.pebbles.specs.Draws.{Placed, bare, same}
-use Rattle.pebbles.specs.Levels.{Gives, Levels, call, even_call, key_at, key_below, key_of, level, levels_after, lowered, lowering_steps, moves, odd_call, put_away, unless_away, with_key_of, with_level, zeros}
+use Rattle.pebbles.specs.Levels.{Gives, Levels, call, even_call, key_at, key_below, level, levels_after, lowered, lowering_steps, moves, odd_call, put_away, unless_away, with_key_of, with_level, zeros}
 use Rattle.pebbles.specs.Runs.{Ready}
 use Rattle.pebbles.proofs.Bare.{bare_level, bare_low, placed_next}
 use Rattle.pebbles.proofs.Calls.{even_form, odd_form}
@@ -37,12 +37,7 @@ moves_two {X} {Y} o k room some small fits g within ls placed j d inside =
 
 -- what is there and not put away
 in_use : {X : Type 0} (p : Option (Level X)) (l : Level X) → unless_away p ≡ Some l → (p ≡ Some l) × (l.away ≡ false)
-in_use None l e = absurd (none-some l e)
-in_use (Some x) l e = go x.away refl e
-  where
-    go : (b : Bool) → x.away ≡ b → cond b None (Some x) ≡ Some l → (Some x ≡ Some l) × (l.away ≡ false)
-    go true _ e = absurd (none-some l e)
-    go false is e = (e, cc)
+in_use p l e = grind arith
 
 -- a level is there, if it is there without its key
 found : {X Y : Type 0} (o : Y) (ls : Levels X) (j : ℕ) (d : Level X) (l : Level Y) → level (map (bare o) ls) j ≡ Some l
@@ -66,10 +61,10 @@ module _ {X Y : Type 0} {o : Y} {step : X → X} {k room g : ℕ} {ls low : Leve
       ((run same o k room mid.some mid.small mid.fits).ready g mid.more)
 
   odd_is : (g + 1) % 2 ≡ 1 → call step (2 ^ k) (g + 1) ls ≡ odd_call step (g + 1) spent low
-  odd_is odd = odd_form step (2 ^ k) (g + 1) ls odd ∙ ap₂ (odd_call step (g + 1)) (sym mid.counted) (sym mid.is)
+  odd_is odd = grind (arith, odd_form)
 
   even_is : (g + 1) % 2 ≡ 0 → call step (2 ^ k) (g + 1) ls ≡ even_call (2 ^ k) (g + 1) spent low
-  even_is even = even_form step (2 ^ k) (g + 1) ls even ∙ ap₂ (even_call (2 ^ k) (g + 1)) (sym mid.counted) (sym mid.is)
+  even_is even = grind (arith, even_form)
 
   -- the levels after the call stand as the next one wants them
   pub placed_odd : (g + 1) % 2 ≡ 1 → Placed o low k room (g + 1)
@@ -92,8 +87,7 @@ module _ {X Y : Type 0} {o : Y} {step : X → X} {k room g : ℕ} {ls low : Leve
   -- at an even place, the level of index z serves it
   module _ (d : Level X) (z stride : ℕ) (even : (g + 1) % 2 ≡ 0) (at : z ≡ zeros (g + 1) - 1) (wide : stride ≡ 2 ^ zeros (g + 1)) where
     even_answer : (call step (2 ^ k) (g + 1) ls).answer ≡ Some (get_or low z d).key
-    even_answer =
-        ap (λ c. c.answer) (even_is even) ∙ ap key_of (found o low (zeros (g + 1)) d _ (ready.even even)).0 ∙ ap (λ x. Some (get_or low x d).key) (sym at)
+    even_answer = grind (arith, even_is even, found, ready.even even)
 
     -- it is refilled from the level that serves the place where it goes on
     pub gives_refill : (after : Level X) → g + 1 + 2 * stride ≤ 2 ^ k

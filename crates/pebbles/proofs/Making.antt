@@ -1,9 +1,9 @@
 -- How an unused source is made: the chain is walked down from its last key, and a level is filled at each power of two.
-use Rattle.std.proofs.Common.{◌≡◌, ℕ, zero, suc, ◌+◌, ◌-◌, ◌^◌, ◌<◌, ◌≤◌, true, false, ◌⊎◌, map, length, get_or, set, replicate, sym, refl, ap, ◌∙◌, inl, inr, suc-add, zero-add, arith}
+use Rattle.std.proofs.Common.{◌≡◌, ℕ, zero, suc, ◌+◌, ◌-◌, ◌^◌, ◌<◌, ◌≤◌, true, false, map, length, get_or, set, replicate, sym, refl, ap, ◌∙◌, suc-add, zero-add, arith}
 use native.Mathlib.Nat.{sub_self}
 use Rattle.std.proofs.lemmas.List.FromFn.{get_or-map-range_with_len, length-map-range_with_len}
 use Rattle.std.proofs.lemmas.List.{ext_get_or, get_or-replicate, get_or-set_same, get_or-set_other, length-replicate, length-set}
-use Rattle.std.proofs.lemmas.Bool.{cases_eq, cond-true, cond-false, le-leb, lt-leb}
+use Rattle.std.proofs.lemmas.Bool.{cond-false, le-leb, lt-leb}
 use Rattle.std.specs.List.{range_with_len}
 use Rattle.pebbles.specs.declared.level.Level.{Level}
 use Rattle.pebbles.proofs.Strides.{even_power}
@@ -55,15 +55,10 @@ module _ {X : Type 0} {step : X → X} {top : X} {k room : ℕ} {d : Level X} {j
     filled = record { key = after; place = lower; target = lower; away = false }
 
     filled_is : (a : ℕ) → 1 + a ≡ j → filled ≡ first_level step top k (1 + a)
-    filled_is a at =
-        let q : lower ≡ 2 ^ (1 + a) = e ∙ ap (λ x. 2 ^ x) (sym at) in
-        (λ i. record { key = (walked_to ∙ ap (key_at step top k) q) i; place = q i; target = q i; away = false })
-        ∙ sym (cond-true _ _ _ (le-leb (1 + a) k (omega arith)))
+    filled_is a at = grind (arith, walked_to, le-leb)
 
-    made_at : (a : ℕ) → a < room → j - 1 ≤ a → (a ≡ j - 1) ⊎ (a ≡ j - 1 → ⊥) → get_or (set ls (j - 1) filled) a d ≡ first_level step top k (1 + a)
-    made_at a inside from (inl here) =
-        ap (λ x. get_or (set ls (j - 1) filled) x d) here ∙ get_or-set_same ls (j - 1) filled d (omega (arith, so_far.long)) ∙ filled_is a (omega arith)
-    made_at a inside from (inr other) = get_or-set_other ls (j - 1) a filled d other ∙ so_far.made a inside (omega arith)
+    made_at : (a : ℕ) → a < room → j - 1 ≤ a → get_or (set ls (j - 1) filled) a d ≡ first_level step top k (1 + a)
+    made_at a inside from = grind (arith, get_or-set_same, get_or-set_other, filled_is, so_far.long, so_far.made a inside)
 
     pub made_more : MadeFrom step top k room d (j - 1) (set ls (j - 1) filled) after lower
     made_more = record {
@@ -71,7 +66,7 @@ module _ {X : Type 0} {step : X → X} {top : X} {k room : ℕ} {d : Level X} {j
       above = omega (arith, even_power j pos);
       within = omega (arith, so_far.above, so_far.within);
       of_chain = walked_to;
-      made = λ a inside from. made_at a inside from (cases_eq a (j - 1));
+      made = made_at;
     }
 
   -- the levels are those of an unused source once the walk is done

@@ -1,22 +1,20 @@
 -- How one level goes from call to call in the closed form.
-use Rattle.std.proofs.Common.{◌≡◌, ℕ, suc, ◌+◌, ◌-◌, ◌*◌, ◌/◌, ◌%◌, ◌<◌, ◌≤◌, true, cond, eqb, leb, Some, Option, sym, ap, ◌∙◌, ap₂, mod-lt, div-add-mod', arith}
+use Rattle.std.proofs.Common.{◌≡◌, ℕ, suc, ◌+◌, ◌-◌, ◌*◌, ◌<◌, ◌≤◌, true, cond, leb, Some, Option, arith}
 use Rattle.std.proofs.lemmas.Grind.{common_steps}
-use Rattle.std.proofs.lemmas.Nat.{div-mul-add, mod-mul-add}
-use Rattle.std.proofs.lemmas.Bool.{cond_both, cond-true, le-leb}
 use Rattle.pebbles.specs.declared.level.Level.{Level}
 use Rattle.pebbles.specs.Levels.{lowered, moves, put_away, with_key_of}
-use Rattle.pebbles.specs.Places.{above, next_target, pebble, served, since, standing, standing_after}
+use Rattle.pebbles.specs.Places.{next_target, pebble, served, since, standing, standing_after}
 
 -- ---- the places served, and the calls since
 
 pub counted : (g p : ℕ) → 0 < p → (g + p ≡ served g p * (2 * p) + since g p) × (since g p < 2 * p)
-counted g p pos = (sym (div-add-mod' (g + p) (2 * p)), mod-lt (g + p) (omega arith))
+counted g p pos = grind arith
 
 pub served_is : (g p q r : ℕ) → g + p ≡ q * (2 * p) + r → r < 2 * p → served g p ≡ q
-served_is g p q r e h = ap (λ (x : ℕ). x / (2 * p)) e ∙ div-mul-add q (2 * p) r h
+served_is g p q r e h = grind arith
 
 pub since_is : (g p q r : ℕ) → g + p ≡ q * (2 * p) + r → r < 2 * p → since g p ≡ r
-since_is g p q r e h = ap (λ (x : ℕ). x % (2 * p)) e ∙ mod-mul-add q (2 * p) r h
+since_is g p q r e h = grind arith
 
 -- the next target is one stride past what was served
 pub target_stride : (p q : ℕ) → next_target p q ≡ q * (2 * p) + p
@@ -43,23 +41,13 @@ served_at g p pos last = grind arith
 
 module _ {X : Type 0} (chain : ℕ → X) (n g p : ℕ) (pos : 0 < p) where
   pub standing_next : suc (since g p) < 2 * p → standing_after chain n (suc g) p ≡ standing chain n p (served g p) (suc (since g p))
-  standing_next more =
-      let q : ℕ = served g p in
-      let r : ℕ = suc (since g p) in
-      let count : suc g + p ≡ q * (2 * p) + r = omega (arith, counted g p pos) in
-      ap₂ (standing chain n p) (served_is (suc g) p q r count more) (since_is (suc g) p q r count more)
+  standing_next more = grind (arith, served_is (suc g) p (served g p) (suc (since g p)), since_is (suc g) p (served g p) (suc (since g p)), counted g p pos)
 
   -- in time: from one and a half strides before its target on, a level is there
   pub in_time : (m d place : ℕ) → g + d ≡ place → place ≡ next_target p m → 0 < d → d ≤ 2 * p → 2 * d ≤ 3 * p + 2 → place ≤ n
       → standing chain n p (served g p) (suc (since g p)) ≡ pebble chain place place
   unfolding standing
-  in_time m d place e t some near low fits =
-      let at = target_ahead g p m d (e ∙ t) some near in
-      let within : leb (next_target p m) n ≡ true = le-leb _ _ (omega arith) in
-      let down : next_target p m + above p m (suc (2 * p - d)) ≡ place =
-      cond_both (eqb m 0) 0 (p - 2 * suc (2 * p - d)) (λ x. next_target p m + x ≡ place) (λ _. omega arith) (λ _. omega arith) in
-      ap₂ (λ q r. standing chain n p q (suc r)) at.0 at.1
-      ∙ cond-true _ _ _ within ∙ ap₂ (pebble chain) down (sym t)
+  in_time m d place e t some near low fits = grind (arith, target_ahead g p m d)
 
 -- a level that has just served the place i
 pub standing_anew : {X : Type 0} (chain : ℕ → X) (n p q i : ℕ) → 0 < p → i ≡ next_target p q → standing_after chain n i p ≡ standing chain n p (suc q) 0

@@ -1,11 +1,11 @@
 -- A row of levels made from a function of the level's number: a map over it, a write to it, a count over it.
-use Rattle.std.proofs.Common.{◌≡◌, ℕ, zero, suc, ◌+◌, ◌-◌, ◌*◌, ◌<◌, ◌≤◌, Bool, true, false, cond, ◌≢◌, ◌⊎◌, ◌∷◌, map, get_or, set, Some, count_by, sym, refl, ap, ◌∙◌, ap₂, inl, inr, ⊎_elim, arith}
+use Rattle.std.proofs.Common.{◌≡◌, ℕ, zero, suc, ◌+◌, ◌-◌, ◌*◌, ◌<◌, ◌≤◌, Bool, true, false, cond, ◌≢◌, ◌∷◌, map, get_or, set, Some, count_by, sym, refl, ap, ◌∙◌, ap₂, ⊎_elim, arith}
 use mathlib.Core.List.{map-map}
 use Rattle.std.proofs.lemmas.List.FromFn.{length-map-range_with_len, get_or-map-range_with_len}
 use Rattle.std.proofs.lemmas.List.{ext_get_or, length-set, get_or-set_same, get_or-set_other}
 use Rattle.std.proofs.lemmas.Option.{slice_get-get_or}
 use Rattle.std.proofs.lemmas.List.Sums.{sum_by-cons}
-use Rattle.std.proofs.lemmas.Bool.{cases_eq, cases_Bool, true≢false}
+use Rattle.std.proofs.lemmas.Bool.{cases_Bool, true≢false}
 use Rattle.std.specs.List.{range_with_len, slice_get}
 
 pub same_row : {X : Type 0} (f f' : ℕ → X) (a n : ℕ) → ((j : ℕ) → a ≤ j → f j ≡ f' j) → map f (range_with_len a n) ≡ map f' (range_with_len a n)
@@ -22,19 +22,13 @@ row_nth f n j pos within =
 
 -- level t is written, and the others stay
 module _ {X : Type 0} (f f' : ℕ → X) (n t : ℕ) (x : X) (pos : 0 < t) (within : t ≤ n) (here : x ≡ f' t) (others : (j : ℕ) → 0 < j → j ≢ t → f j ≡ f' j) where
-  set_row_at : (i : ℕ) → i < n → (i ≡ t - 1) ⊎ (i ≡ t - 1 → ⊥) → get_or (set (map f (range_with_len 1 n)) (t - 1) x) i x ≡ get_or (map f' (range_with_len 1 n)) i x
-  set_row_at i inside (inl e) =
-      ap (λ y. get_or (set (map f (range_with_len 1 n)) (t - 1) x) y x) e
-      ∙ get_or-set_same (map f (range_with_len 1 n)) (t - 1) x x (omega (arith, length-map-range_with_len f 1 n)) ∙ here
-      ∙ sym (get_or-map-range_with_len f' 1 n i t x inside (omega arith))
-  set_row_at i inside (inr e) =
-      get_or-set_other (map f (range_with_len 1 n)) (t - 1) i x x e ∙ get_or-map-range_with_len f 1 n i (1 + i) x inside refl
-      ∙ others (1 + i) (omega arith) (λ same. e (omega arith)) ∙ sym (get_or-map-range_with_len f' 1 n i (1 + i) x inside refl)
+  set_row_at : (i : ℕ) → i < n → get_or (set (map f (range_with_len 1 n)) (t - 1) x) i x ≡ get_or (map f' (range_with_len 1 n)) i x
+  set_row_at i inside = grind (arith, get_or-set_same, get_or-set_other, get_or-map-range_with_len, length-map-range_with_len, others (1 + i))
 
   pub set_row : set (map f (range_with_len 1 n)) (t - 1) x ≡ map f' (range_with_len 1 n)
   set_row =
       ext_get_or x _ _ (length-set (map f (range_with_len 1 n)) (t - 1) x ∙ length-map-range_with_len f 1 n ∙ sym (length-map-range_with_len f' 1 n)) λ i inside.
-      set_row_at i (omega (arith, length-set (map f (range_with_len 1 n)) (t - 1) x, length-map-range_with_len f 1 n)) (cases_eq i (t - 1))
+      set_row_at i (omega (arith, length-set (map f (range_with_len 1 n)) (t - 1) x, length-map-range_with_len f 1 n))
 
 -- where no two neighbours pass, and none from k - 1 on, twice their number is at most k - a; and one less where the first does not pass
 module _ {X : Type 0} (passes : X → Bool) (f : ℕ → X) (k : ℕ) where

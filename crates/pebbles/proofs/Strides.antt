@@ -1,8 +1,7 @@
 -- The strides of the levels are powers of two: how the levels' targets lie within 2 ^ k places, and which levels move.
-use Rattle.std.proofs.Common.{◌≡◌, ℕ, zero, suc, ◌+◌, ◌-◌, ◌*◌, ◌/◌, ◌^◌, ◌<◌, ◌≤◌, true, sym, ap, ◌∙◌, ⊎_elim, mul_assoc, mul_comm, mul-le-mul_left, mul-add, mul_left_comm, add-sub_of_le, le_of_lt, arith, pow_pos, pow_mono, pow-add}
+use Rattle.std.proofs.Common.{◌≡◌, ℕ, zero, suc, ◌+◌, ◌-◌, ◌*◌, ◌/◌, ◌^◌, ◌<◌, ◌≤◌, true, sym, ap, ◌∙◌, mul_assoc, mul_comm, mul-le-mul_left, mul-add, mul_left_comm, add-sub_of_le, le_of_lt, arith, pow_pos, pow_mono, pow-add}
 use native.Mathlib.Nat.{pow-succ', le_of_mul-le-mul_left}
 use Rattle.std.proofs.lemmas.Nat.{div-mul-add, pow_below}
-use Rattle.std.proofs.lemmas.Bool.{cases_lt}
 use Rattle.pebbles.specs.Levels.{moves}
 use Rattle.pebbles.specs.Places.{served, since, next_target, standing_after}
 use Rattle.pebbles.proofs.Places.{counted, target_stride, moving}
@@ -14,7 +13,7 @@ even_power (suc j) h = let less : j ≡ suc j - 1 = omega arith in pow-succ' 2 j
 
 -- of two powers of two the larger has the larger exponent
 pub exponent_le : (a b : ℕ) → 2 ^ a ≤ 2 ^ b → a ≤ b
-exponent_le a b h = ⊎_elim (λ above. absurd (omega (arith, pow_below b a above))) (λ within. within) (cases_lt b a)
+exponent_le a b h = grind (arith, pow_below)
 
 -- a level with a target within the chain is one of the k levels
 pub level_within : (k j q : ℕ) → next_target (2 ^ j) q ≤ 2 ^ k → j ≤ k
@@ -22,10 +21,7 @@ level_within k j q h = exponent_le j k (omega (arith, target_stride (2 ^ j) q))
 
 -- and where it has served a place already, it lies below the last two
 pub level_below : (k j q : ℕ) → 0 < q → next_target (2 ^ j) q ≤ 2 ^ k → suc j < k
-level_below k j q some h =
-    ⊎_elim (λ below. below)
-    (λ last. absurd (omega (arith, pow_mono last, pow-succ' 2 j, pow_pos j, target_stride (2 ^ j) q, mul-le-mul_left (2 * 2 ^ j) some, mul_comm q (2 * 2 ^ j))))
-    (cases_lt (suc j) k)
+level_below k j q some h = grind (arith, pow_mono {i = k} {j = suc j}, pow-succ' 2 j, pow_pos j, target_stride (2 ^ j) q, mul-le-mul_left (2 * 2 ^ j) some)
 
 -- an odd multiple of a stride lies a stride below the next multiple of a larger power of two
 pub stride_of_room : (k j q : ℕ) → 0 < q → next_target (2 ^ j) q ≤ 2 ^ k → next_target (2 ^ j) q + 2 ^ j ≤ 2 ^ k

@@ -7,7 +7,7 @@ use Rattle.pebbles.proofs.Strides.{even_power}
 
 -- an even place has between 1 and 12 trailing zero bits
 pub zeros_of_even : (place : ℕ) → 0 < place → place ≤ 4096 → place % 2 ≡ 0 → (0 < zeros place) × (zeros place ≤ 12) × (2 ^ zeros place ≤ 4096)
-zeros_of_even place some most even = let z = zeros_within 12 place (omega arith) some most even in (z.0, z.1, pow_mono z.1)
+zeros_of_even place some most even = grind (arith, zeros_within 12 place, pow_mono)
 
 -- the place of level j of an unused source, `2 << (j - 1)`
 pub first_place : (j : ℕ) → 0 < j → j ≤ 12 → 2 * 2 ^ (j - 1) % 2 ^ 32 ≡ 2 ^ j

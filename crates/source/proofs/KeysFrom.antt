@@ -1,11 +1,10 @@
 -- The keys that a pebbled source gives from its levels on.
-use Rattle.std.proofs.Common.{◌≡◌, ℕ, zero, suc, ◌+◌, ◌-◌, ◌^◌, ◌<◌, ◌≤◌, ◌∷◌, get_or, sym, refl, ap, ◌∙◌, arith}
+use Rattle.std.proofs.Common.{◌≡◌, ℕ, zero, suc, ◌+◌, ◌-◌, ◌^◌, ◌<◌, ◌≤◌, refl, ap, arith}
 use Rattle.std.proofs.lemmas.List.FromFn.{get_or-map-range_with_len}
 use Rattle.cipher.specs.Blocks.{Make}
 use Rattle.cipher.specs.declared.key.Key.{Key}
 use Rattle.chain.specs.Chain.{down, step}
-use Rattle.pebbles.specs.Draws.{draws}
-use Rattle.pebbles.specs.Levels.{Gives, Levels, call, key_at, levels_after}
+use Rattle.pebbles.specs.Levels.{Gives, Levels, call, levels_after}
 use Rattle.pebbles.specs.Levels.{down as stepped}
 use Rattle.pebbles.proofs.Draws.{draws_chain, draws_next}
 use Rattle.source.specs.Chains.{key_from}
@@ -21,26 +20,14 @@ same_down make key (suc s) = ap (step make) (same_down make key s)
 module _ (make : Make) (k g : ℕ) (ls after : Levels Key) (key : Key) (taken : ℕ) (gives : Gives (call (step make) (2 ^ k) (g + 1) ls) key taken after) (more : g < 2 ^ k) where
   pub key_first : key ≡ key_from make ls k g (g + 1)
   unfolding key_from
-  key_first =
-      let first : g + 1 - (g + 1) ≡ 0 = omega arith in
-      sym (ap (λ l. get_or l (g + 1 - (g + 1)) no_key) (draws_next (step make) no_key (2 ^ k) (2 ^ k - g) g ls after key taken gives (omega arith))
-      ∙ ap (λ i. get_or (key ∷ draws (step make) no_key (2 ^ k) (2 ^ k - g - 1) (g + 1) after) i no_key) first)
+  key_first = grind (arith, draws_next (step make) no_key (2 ^ k) (2 ^ k - g) g ls after key taken gives)
 
   pub keys_stay : (m : ℕ) → g + 1 < m → key_from make after k (g + 1) m ≡ key_from make ls k g m
   unfolding key_from
-  keys_stay m later =
-      let behind : m - (g + 1) ≡ suc (m - (g + 1 + 1)) = omega arith in
-      let one_less : 2 ^ k - g - 1 ≡ 2 ^ k - (g + 1) = omega arith in
-      sym (ap (λ l. get_or l (m - (g + 1)) no_key) (draws_next (step make) no_key (2 ^ k) (2 ^ k - g) g ls after key taken gives (omega arith))
-      ∙ ap (λ i. get_or (key ∷ draws (step make) no_key (2 ^ k) (2 ^ k - g - 1) (g + 1) after) i no_key) behind
-      ∙ ap (λ c. get_or (draws (step make) no_key (2 ^ k) c (g + 1) after) (m - (g + 1 + 1)) no_key) one_less)
+  keys_stay m later = grind (arith, draws_next (step make) no_key (2 ^ k) (2 ^ k - g) g ls after key taken gives)
 
 -- the keys of an unused source are the chain
 pub keys_chain : (make : Make) (last : Key) (k : ℕ) (ls : Levels Key) → 1 ≤ k → k ≤ 12 → ls ≡ levels_after (step make) last k 12 0
     → (m : ℕ) → 1 ≤ m → m ≤ 2 ^ k → key_from make ls k 0 m ≡ down make last (2 ^ k - m)
 unfolding key_from
-keys_chain make last k ls some most unused m from to =
-    ap (λ l. get_or (draws (step make) no_key (2 ^ k) (2 ^ k - 0) 0 l) (m - (0 + 1)) no_key) unused
-    ∙ ap (λ l. get_or l (m - (0 + 1)) no_key) (draws_chain (step make) last no_key k 12 some (omega arith) most (2 ^ k - 0) 0 (omega arith))
-    ∙ get_or-map-range_with_len (key_at (step make) last k) (0 + 1) (2 ^ k - 0) (m - (0 + 1)) m no_key (omega arith) (omega arith)
-    ∙ same_down make last (2 ^ k - m)
+keys_chain make last k ls some most unused m from to = grind (arith, draws_chain, get_or-map-range_with_len, same_down)

@@ -5,6 +5,7 @@ use Rattle.pebbles.proofs.Strides.{exponent_le}
 use lib.Count.{ones, ones_in, ones_step}
 use Rattle.source.specs.Sizes.{Size, few_at_most, two_at_least}
 
+-- a number of one set bit is a power of two
 power_of_ones : (w n : ℕ) → n < 2 ^ w → count_ones n ≡ 1 → (k : ℕ) × (n ≡ 2 ^ k)
 unfolding ones ones_in
 power_of_ones zero n small one = let none : n ≡ 0 = omega arith in absurd (omega (arith, one, ap count_ones none))
@@ -16,6 +17,7 @@ power_of_ones (suc w) n small one = go (n % 2) refl (power_of_ones w (n / 2) (om
         (suc half.0, omega (arith, half.1, pow-suc 2 half.0))
     go (suc d) odd rest = (0, omega (arith, zero_from_ones (n / 2) (omega (arith, ones_step n, one))))
 
+-- such a number from 2 to 4,096 is a table's size, and so is no other
 pub size_of_power : (n : ℕ) → count_ones n ≡ 1 → 2 ≤ n → n ≤ 4096 → Size n
 size_of_power n one least most =
     let power = power_of_ones 13 n (omega arith) one in

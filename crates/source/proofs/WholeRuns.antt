@@ -12,7 +12,7 @@ use Rattle.source.specs.Runs.{Calls, Run, Stepping, Unused}
 
 -- two powers of two are the same only where their exponents are
 same_power : (a b : ℕ) → 2 ^ a ≡ 2 ^ b → a ≡ b
-same_power a b e = omega (arith, exponent_le a b (omega arith), exponent_le b a (omega arith))
+same_power a b e = grind (arith, exponent_le)
 
 pub stepping : (k : ℕ) → 1 ≤ k → k ≤ 12 → Stepping k
 stepping k some most = record {
@@ -58,7 +58,7 @@ module _ {S : Type 0} (meaning : S → Source) (bits : S → ℕ) (sized : (s : 
       (rule (states g) ∙ ap₂ (λ b i. steps_after b 12 i) same_bits here.drawn)
 
   at_end : (meaning (states (2 ^ k))).drawn ≡ (meaning (states (2 ^ k))).count
-  at_end = let here = so_far (2 ^ k) (omega arith) in here.drawn ∙ sym here.count
+  at_end = grind (arith, so_far (2 ^ k))
 
 pub whole_run : {S : Type 0} (meaning : S → Source) (bits : S → ℕ) → ((s : S) → (meaning s).count ≡ 2 ^ bits s)
     → ((s : S) → (meaning s).due ≡ steps_after (bits s) 12 (meaning s).drawn)

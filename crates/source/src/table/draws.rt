@@ -13,7 +13,8 @@ use refusal::Refusal;
 // Whether a table can have so many keys.
 #[tactic(auto, using(crate::proofs::SizeTests::size_of_power, crate::proofs::SizeTests::power_of_size))]
 fn is_size(count: usize) -> bool
-    ensures size { IsTrue result ↔ Size count }
+    ensures yes { IsTrue result → Size count }
+    ensures no { Size count → IsTrue result }
     ensures least { IsTrue result → 2 ≤ count }
     ensures most { IsTrue result → count ≤ MOST_KEYS }
 {

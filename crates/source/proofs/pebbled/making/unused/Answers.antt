@@ -1,8 +1,6 @@
 -- The turns of the walk.
-use Rattle.std.proofs.Common.{◌≡◌, ℕ, ◌-◌, ◌*◌, ◌%◌, ◌^◌, ◌<◌, ◌≤◌, sym, ◌∙◌, arith}
-use Rattle.std.proofs.lemmas.Nat.{shl_whole}
+use Rattle.std.proofs.Common.{sym, ◌∙◌, arith}
 use Rattle.pebbles.proofs.Making.{made_all, made_more}
-use Rattle.pebbles.proofs.Strides.{even_power}
 use Rattle.source.proofs.EvenPlaces.{first_place}
 use Rattle.source.proofs.KeysFrom.{same_down}
 use Rattle.source.proofs.pebbled.making.unused.Goals as goal
