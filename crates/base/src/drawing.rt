@@ -21,10 +21,8 @@ impl<S: KeySource> Drawing<S> {
         ensures serves { (zeroth : AnyKey) (n : ℕ) (key : ℕ → AnyKey) → Serves S.meaning self.old zeroth n key → Serves S.meaning self.new zeroth n key }
     {
         while self.source.given() < interval {
-            match self.source.next() {
-                Ok((key, _)) => self.last = key,
-                Err(_) => unreachable(),
-            }
+            let (key, _) = self.source.next().unwrap();
+            self.last = key;
         }
     }
 }

@@ -8,6 +8,7 @@ use crate::drawing::Drawing;
 use crate::schedule::Schedule;
 use crate::state::Base;
 use cipher::{Block, Key};
+use link::READINGS;
 use refusal::Refusal;
 use source::KeySource;
 use std::marker::PhantomData;
@@ -22,9 +23,8 @@ fn may_stand<M: KeySource, D: KeySource>(
     ensures { result ≡ (in_limits (setup_of (supply (M.KeySource.meaning first.now)) (supply (D.KeySource.meaning second.now)) commitment schedule.start schedule.duration schedule.delay) && a_pair (supply (M.KeySource.meaning first.now)) (supply (D.KeySource.meaning second.now))) }
 {
     schedule.duration >= 1
-        && schedule.delay >= 1
-        && schedule.delay <= 16
-        && schedule.start < 1 << 52
+        && (1..=16).contains(&schedule.delay)
+        && schedule.start < READINGS
         && first.given() == 0
         && second.given() == 0
         && first.count() == second.count()

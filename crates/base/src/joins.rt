@@ -64,7 +64,8 @@ impl<B: Block, M: KeySource, D: KeySource> Base<B, M, D> {
         out: &mut [u8],
     ) -> Result<usize, Refusal>
         ensures rules { (x : AnyBase) → Means M.KeySource D.KeySource self.old x → Called B.Block.make M.KeySource D.KeySource x (to_answer reading pair request.now (length out.old)) result out.old out.new self.new }
-        ensures refused { Untouched result self.old self.new × Untouched result out.old out.new }
+        ensures refused { Untouched result self.old self.new }
+        ensures refused_buffer { Untouched result out.old out.new }
     {
         let request = read_request(request)?;
         self.may_answer(reading, out.len())?;

@@ -50,7 +50,8 @@ impl<B: Block, M: KeySource, D: KeySource> Base<B, M, D> {
     // Writes the newest key that is due into the start of the buffer, and answers its length.
     pub fn disclose(&mut self, reading: u64, out: &mut [u8]) -> Result<usize, Refusal>
         ensures rules { (x : AnyBase) → Means M.KeySource D.KeySource self.old x → Called B.Block.make M.KeySource D.KeySource x (to_disclose reading (length out.old)) result out.old out.new self.new }
-        ensures refused { Untouched result self.old self.new × Untouched result out.old out.new }
+        ensures refused { Untouched result self.old self.new }
+        ensures refused_buffer { Untouched result out.old out.new }
     {
         let interval = self.key_interval(reading, out.len())?;
         self.disclosing.draw_to(interval);

@@ -56,7 +56,7 @@ impl<B: Block, M: KeySource, D: KeySource> Base<B, M, D> {
             return Err(Refusal::ReadingOutOfOrder);
         }
         let interval = self.interval_at(reading);
-        if interval < 1 || interval > u64::from(self.making.source.count()) {
+        if !(1..=u64::from(self.making.source.count())).contains(&interval) {
             return Err(Refusal::NoSuchInterval);
         }
         let interval = interval as u32;
@@ -75,7 +75,8 @@ impl<B: Block, M: KeySource, D: KeySource> Base<B, M, D> {
     // Writes an order with the payload into the start of the buffer, and answers its length.
     pub fn make(&mut self, reading: u64, payload: &[u8], out: &mut [u8]) -> Result<usize, Refusal>
         ensures rules { (x : AnyBase) → Means M.KeySource D.KeySource self.old x → Called B.Block.make M.KeySource D.KeySource x (to_make reading payload.now (length out.old)) result out.old out.new self.new }
-        ensures refused { Untouched result self.old self.new × Untouched result out.old out.new }
+        ensures refused { Untouched result self.old self.new }
+        ensures refused_buffer { Untouched result out.old out.new }
     {
         let interval = self.order_interval(reading, payload, out.len())?;
         let number = self.made_in(interval);

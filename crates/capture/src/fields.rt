@@ -22,12 +22,10 @@ impl ByteOrder {
         requires { from + 4 ≤ length bytes.now }
         ensures { result ≡ word_at self from bytes.now }
     {
-        let Some(four) = bytes[from..].first_chunk() else {
-            unreachable()
-        };
+        let four = *bytes[from..].first_chunk().unwrap();
         match self {
-            ByteOrder::Little => u32::from_le_bytes(*four),
-            ByteOrder::Big => u32::from_be_bytes(*four),
+            ByteOrder::Little => u32::from_le_bytes(four),
+            ByteOrder::Big => u32::from_be_bytes(four),
         }
     }
 

@@ -107,7 +107,7 @@ impl Halves {
         }
     }
 
-    // One round, by its two words alone: those of round 0 in a table of their own.
+    // One round with its two words. By themselves these are a table in which they have the places of round 0.
     fn round(self, words: [u32; 2]) -> Halves
         ensures { result ≡ round 0 words self }
     {

@@ -10,10 +10,13 @@ ghost use Rattle.link.specs.Unharmed.{AnswersFinish, UnharmedReads};
 mod readings;
 mod tags;
 
-pub use readings::in_order;
+pub use readings::{READINGS, in_order};
 pub use tags::{answer_tag, data_tag};
 
 // The number of packets that a receiver can hold.
+pub const PLACES: usize = 32;
+
+// That number, and what the rules come to: the theorem, and that there are histories for it.
 pub fn places() -> usize
     ensures count { result ≡ 32 }
     ensures stands { LinkStands }
@@ -22,5 +25,5 @@ pub fn places() -> usize
     ensures unharmed { UnharmedReads }
     ensures joins { AnswersFinish }
 {
-    32
+    PLACES
 }

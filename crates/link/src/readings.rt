@@ -3,7 +3,7 @@ ghost use Rattle.std.specs.Prelude.{◌≡◌};
 ghost use Rattle.link.specs.Reception.{in_order};
 
 // Readings stay below this.
-const READINGS: u64 = 1 << 52;
+pub const READINGS: u64 = 1 << 52;
 
 // A reading is below 2^52, and not before the latest one.
 pub fn in_order(latest: u64, reading: u64) -> bool

@@ -9,7 +9,8 @@ ghost use Rattle.link.specs.Reception.{has};
 ghost use Rattle.node.specs.Places.{held, KnownFirst, slot_said};
 
 use crate::slot::Slot;
-use crate::table::{PLACES, Table};
+use crate::table::Table;
+use link::PLACES;
 use packet::Data;
 
 impl Table {

@@ -10,11 +10,10 @@ ghost use Rattle.node.specs.Receivers.{meaning};
 
 use crate::receiver::Receiver;
 use crate::released::Released;
-use crate::table::PLACES;
 use crate::time::{Reading, is_interval};
 use chain::down;
 use cipher::{Block, Key};
-use link::{data_tag, in_order};
+use link::{PLACES, data_tag, in_order};
 use packet::{Data, MAX_PAYLOAD, read_data, read_key};
 use refusal::Refusal;
 
@@ -97,10 +96,8 @@ impl<B: Block> Receiver<B> {
         ensures { result ≡ right_now (world B.make (meaning self.now).clock) (meaning self.now).state (data_said packet.now) }
     {
         let steps = u32::from(self.reached.saturating_sub(packet.interval));
-        match data_tag::<B>(down::<B>(self.newest, steps), packet) {
-            Ok(right) => *packet.tag == right,
-            Err(_) => false,
-        }
+        let right = data_tag::<B>(down::<B>(self.newest, steps), packet).unwrap();
+        *packet.tag == right
     }
 
     // Lets out the first packet whose key is known, with its payload if its tag is right.

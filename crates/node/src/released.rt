@@ -1,13 +1,11 @@
 // What a release tells of the packet that it let out.
-ghost use Rattle.std.specs.Prelude.{◌≤◌};
 
 // The payload, of `length` bytes, is in the start of the buffer; it has none where the verdict is false.
-// The verdict stands beside the length, and not in an Option of it, since the link's rules tell a release by these four.
+// A rule of the project asks for a plain record of these four, and so for no Option of the length.
 #[derive(Clone, Copy, PartialEq, Eq, Debug)]
 pub struct Released {
     pub interval: u16,
     pub number: u8,
     pub length: usize,
     pub verdict: bool,
-    ghost short: { length ≤ 64 },
 }

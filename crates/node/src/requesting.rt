@@ -16,7 +16,7 @@ use crate::table::Table;
 use crate::time::{LAST, Reading, SenderTime};
 use crate::timing::offset;
 use cipher::{Block, Key};
-use link::{answer_tag, in_order};
+use link::{READINGS, answer_tag, in_order};
 use packet::{Answer, Packet, Request, read_answer, write};
 use refusal::Refusal;
 use std::marker::PhantomData;
@@ -43,7 +43,7 @@ fn is_drift(drift: u32) -> bool
 fn is_rhythm(answer: &Answer) -> bool
     ensures { result ≡ rhythm_fits (answer_said answer.now) }
 {
-    1 <= answer.delay && answer.delay <= 16 && 1 <= answer.duration
+    (1..=16).contains(&answer.delay) && 1 <= answer.duration
 }
 
 // The schedule that an answer tells is one that a base can have.
@@ -132,7 +132,7 @@ impl Requesting {
     pub fn check<B: Block>(&self, at: Reading, bytes: &[u8]) -> Result<(), Refusal>
         ensures { result ≡ asked (first_no (finish_questions B.make (node_of self.now) at.0 bytes.now)) }
     {
-        let _answer = self.welcome::<B>(at, bytes)?;
+        self.welcome::<B>(at, bytes)?;
         Ok(())
     }
 

@@ -3,7 +3,7 @@ ghost use Rattle.std.specs.Prelude.{◌≤◌};
 
 use packet::MAX_PAYLOAD;
 
-// The packet's payload is the first `length` bytes of `payload`. The memory is fixed: there is no heap.
+// The packet's payload is the first `length` bytes of `payload`. A plain record, as the table's rule asks.
 #[derive(Clone, Copy)]
 pub(crate) struct Slot {
     pub(crate) interval: u16,

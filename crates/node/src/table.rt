@@ -2,11 +2,10 @@
 ghost use Rattle.std.specs.Prelude.{◌≤◌};
 
 use crate::slot::Slot;
+use link::PLACES;
 
-// The number of packets that a receiver can hold.
-pub(crate) const PLACES: usize = 32;
-
-// The first `count` places are taken, in the order in which their packets came. The memory is fixed: there is no heap.
+// The first `count` places are taken, in the order in which their packets came. A rule of the project asks for an array of
+// plain records, each lent to be filled or freed.
 #[derive(Drop)]
 pub(crate) struct Table {
     pub(crate) slots: [Slot; PLACES],

@@ -21,5 +21,5 @@ pub(crate) struct SenderTime {
 pub(crate) fn is_interval(number: u16) -> bool
     ensures { result ≡ an_interval number }
 {
-    1 <= number && number <= LAST
+    (1..=LAST).contains(&number)
 }

@@ -1,6 +1,6 @@
 // What each kind of packet says. Byte strings are borrowed: from the bytes received, or from whoever writes.
 
-// The first byte of each kind. Constants stand in slice patterns, where the variants of an enum of kinds could not.
+// The first byte of each kind. A rule of the project asks for slice patterns, where constants can stand and variants cannot.
 pub(crate) const REQUEST: u8 = 1;
 
 pub(crate) const ANSWER: u8 = 2;

@@ -10,7 +10,8 @@ use crate::fields::part_at;
 use crate::kinds::{ANSWER, Answer, DATA, Data, Disclosure, KEY, Packet, REQUEST, Request};
 use refusal::Refusal;
 
-// Each reader of one kind refuses another kind whatever its length. A pattern takes no parameter, so each has its own.
+// Each reader of one kind refuses another kind whatever its length. A rule of the project asks for slice patterns, which take
+// no parameter, so each has its own.
 pub fn read_request(bytes: &[u8]) -> Result<Request<'_>, Refusal>
     ensures { told request_said result ≡ read_request bytes.now }
 {

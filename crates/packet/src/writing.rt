@@ -128,7 +128,8 @@ impl Answer<'_> {
 }
 
 impl Data<'_> {
-    // The bytes that the tag covers, into the start of `out`, since there is no heap. The tag itself is not read.
+    // The bytes that the tag covers, into the start of `out`, as every write does by a rule of the project. The tag itself is not
+    // read.
     pub fn covered(&self, out: &mut [u8; 68]) -> Result<usize, Refusal>
         ensures value { result ≡ (write_covered (data_said self.now) out.old).0 }
         ensures after { out.new ≡ (write_covered (data_said self.now) out.old).1 }

@@ -1,5 +1,5 @@
 -- What a release of the code comes to.
-use Rattle.std.proofs.Common.{◌≡◌, ℕ, List, ◌∷◌, length, Some, None, Ok, Err, Option, Result, sym, refl, ap, ◌∙◌, subst}
+use Rattle.std.proofs.Common.{◌≡◌, ℕ, ◌≤◌, List, ◌∷◌, length, take, Some, None, Ok, Err, Option, Result, sym, refl, ap, ◌∙◌, subst, arith, length-take}
 use Rattle.std.specs.Result.{IsOk}
 use Rattle.refusal.specs.declared.Refusal.{Refusal}
 use Rattle.cipher.specs.Blocks.{Make}
@@ -8,7 +8,7 @@ use Rattle.link.specs.Receiver.{Receiver, to_release, answer, then, none, after 
 use Rattle.node.specs.Answers.{release_length, release_says, released_says, written}
 use Rattle.node.specs.declared.released.Released.{Released}
 use Rattle.playback.specs.Parts.{receiving, until_none}
-use Rattle.playback.specs.Releasing.{LetsOut, told_out}
+use Rattle.playback.specs.Releasing.{LetsOut, out_length, told_out}
 use Rattle.playback.proofs.Releases.{Unfolds, unfolds}
 
 module _ (cipher : Make) (r r' : Receiver) (before after : List ℕ) where
@@ -35,6 +35,14 @@ module _ (cipher : Make) (r r' : Receiver) (before after : List ℕ) where
             subst (λ q. released cipher r (until_none cipher r) ≡ released_says x after ∷ released cipher q (until_none cipher q)) (sym h.leaves) all.0,
             ap receiving (subst (λ q. afterwards cipher r (until_none cipher r) ≡ afterwards cipher q (until_none cipher q)) (sym h.leaves) all.1),
           )
+
+  -- the payload that is told is the whole front of that length, so that the buffer is as long
+  pub front_within : (o : Option Released) (room : ℕ) → length after ≡ 64 → ReleasedAs (Ok o) room → out_length o ≤ 64
+  front_within None room same h = omega arith
+  front_within (Some x) room same h =
+      let told : x.length ≡ length (take x.length after) = h.long ∙ ap (λ a. length (written a)) (sym h.says) in
+      let short = length-take x.length after in
+      omega arith
 
   pub never_refused : (result : Result (Option Released) Refusal) (room : ℕ) → room ≡ 64 → ReleasedAs result room → IsOk result
   never_refused (Ok o) room e h = refl

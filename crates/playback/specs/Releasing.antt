@@ -31,3 +31,8 @@ LetsOut cipher before after (Some answer) = (to_go_out cipher before ≡ answer 
 abbrev pub wrote : Option Answer → List ℕ
 wrote None = []
 wrote (Some answer) = written answer
+
+-- how much of the buffer it has
+abbrev pub out_length : Option Released → ℕ
+out_length None = 0
+out_length (Some x) = x.length

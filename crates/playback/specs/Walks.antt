@@ -58,3 +58,9 @@ goes_out m (answered (out interval number payload verdict)) = None
 abbrev pub LetsOn : Option Step → List Step → List Step → Option Time → Type 0
 LetsOn None before after releasing = (before ≡ after) × (releasing ≡ None)
 LetsOn (Some s) before after releasing = before ≡ s ∷ after
+
+-- how much of the buffer a step has
+abbrev pub payload_length : Option step.Step.Step → ℕ
+payload_length None = 0
+payload_length (Some (step.Step.TheVariants.Heard r outcome)) = 0
+payload_length (Some (step.Step.TheVariants.Out m x)) = x.length

@@ -24,7 +24,7 @@ pub fn open(capture: &[u8]) -> Result<Records<'_>, Refusal>
     }
     let format = RecordFormat {
         order: header.order,
-        limit: RecordFormat::WRITTEN.limit,
+        ..RecordFormat::WRITTEN
     };
     Ok(Records::new(format, &capture[Header::LENGTH..]))
 }

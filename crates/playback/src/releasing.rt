@@ -1,7 +1,7 @@
 // The node lets out what its newest key has proved, a packet at a time.
-ghost use Rattle.std.specs.Prelude.{◌≡◌};
+ghost use Rattle.std.specs.Prelude.{◌≡◌, ◌≤◌};
 ghost use Rattle.packet.specs.Writing.{filled};
-ghost use Rattle.playback.specs.Releasing.{LetsOut, told_out, wrote};
+ghost use Rattle.playback.specs.Releasing.{LetsOut, out_length, told_out, wrote};
 ghost use Rattle.playback.specs.Stages.{part_of};
 ghost use Rattle.playback.specs.Parts.{receiving};
 ghost use Rattle.node.specs.Receivers.{meaning};
@@ -18,6 +18,7 @@ fn let_out<B: Block>(
 ) -> Option<Released>
     ensures lets { LetsOut B.make (receiving (meaning receiver.old)) (receiving (meaning receiver.new)) (told_out result payload.new) }
     ensures buffer { payload.new ≡ filled (wrote (told_out result payload.new)) payload.old }
+    ensures within { out_length result ≤ 64 }
 {
     receiver.release(payload).unwrap()
 }
@@ -27,6 +28,7 @@ impl<B: Block> Stage<B> {
     pub(crate) fn release(self, payload: &mut [u8; MAX_PAYLOAD]) -> (Stage<B>, Option<Released>)
         ensures lets { LetsOut B.make (part_of self) (part_of result.0) (told_out result.1 payload.new) }
         ensures buffer { payload.new ≡ filled (wrote (told_out result.1 payload.new)) payload.old }
+        ensures within { out_length result.1 ≤ 64 }
     {
         match self {
             Stage::Receiving(mut receiver) => {

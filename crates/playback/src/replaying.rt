@@ -1,12 +1,12 @@
 // Replay: a capture is walked, and the orders that come out make a capture of their own.
-ghost use Rattle.std.specs.Prelude.{◌≡◌, ◌+◌, ◌≤◌, length, take, IfOk};
+ghost use Rattle.std.specs.Prelude.{◌≡◌, ◌+◌, ◌≤◌, length, take, IfOk, Some};
 ghost use Rattle.packet.specs.Writing.{filled, Puts};
 ghost use Rattle.capture.specs.declared.forms.ByteOrder.TheVariants.{Little};
 ghost use Rattle.capture.specs.Format.{header_bytes, record_bytes, record_length, record_said};
 ghost use Rattle.playback.specs.Counting.{Counted, counts_of, orders_bytes, Regular, StepFits, StepsFit};
 ghost use Rattle.playback.specs.Playing.{header_out, replayed};
 ghost use Rattle.playback.specs.Replays.{GivesBack, ReplaysStand};
-ghost use Rattle.playback.specs.Walks.{step_said, to_come};
+ghost use Rattle.playback.specs.Walks.{payload_length, step_said, to_come};
 
 use crate::counts::Counts;
 use crate::opening::open;
@@ -34,13 +34,14 @@ fn put_order(order: &Record, written: usize, out: &mut [u8]) -> usize
 impl Counts {
     // A record is read; a true release is written behind what is written so far.
     fn after(self, step: Step, payload: &[u8; MAX_PAYLOAD], out: &mut [u8]) -> Counts
-        requires { StepFits self (step_said step payload.now) (length out.old) }
+        requires step_fits { StepFits self (step_said step payload.now) (length out.old) }
+        requires step_bound { payload_length (Some step) ≤ 64 }
         ensures { Counted self (step_said step.entry payload.now) result out.old out.new }
     {
         match step {
             Step::Heard(record, _) => Counts {
-                written: self.written,
                 read: self.read + Record::LEAD + record.bytes.len(),
+                ..self
             },
             Step::Out(at, released) if released.verdict => {
                 let length = released.length;
@@ -50,7 +51,7 @@ impl Counts {
                 };
                 Counts {
                     written: put_order(&order, self.written, out),
-                    read: self.read,
+                    ..self
                 }
             }
             Step::Out(_, _) => self,

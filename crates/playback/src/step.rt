@@ -4,7 +4,7 @@ use capture::{Record, Time};
 use node::Released;
 use refusal::Refusal;
 
-#[derive(Clone, Copy)]
+#[derive(Clone, Copy, PartialEq, Eq, Debug)]
 pub enum Step<'a> {
     Heard(Record<'a>, Result<Outcome, Refusal>),
     // At the time of its key; the payload is in the start of the buffer.

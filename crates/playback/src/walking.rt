@@ -1,12 +1,12 @@
 // A walk goes on by one step: what a granted key lets out first, then the next record.
-ghost use Rattle.std.specs.Prelude.{◌≡◌, ℕ, List, [], None};
+ghost use Rattle.std.specs.Prelude.{◌≡◌, ℕ, ◌≤◌, List, [], None};
 ghost use Rattle.cipher.specs.Blocks.{Make};
 ghost use Rattle.packet.specs.Writing.{filled};
 ghost use Rattle.capture.specs.Ahead.{ahead};
 ghost use Rattle.playback.specs.Parts.{silent};
 ghost use Rattle.playback.specs.Stages.{outcome_said};
 ghost use Rattle.playback.specs.Steps.{walked};
-ghost use Rattle.playback.specs.Walks.{goes_out, LetsOn, StepsOn, step_wrote, to_come, told_step};
+ghost use Rattle.playback.specs.Walks.{goes_out, LetsOn, payload_length, StepsOn, step_wrote, to_come, told_step};
 
 use crate::outcome::Outcome;
 use crate::stage::Stage;
@@ -44,6 +44,7 @@ impl<'a, B: Block> Walk<'a, B> {
     fn let_out(&mut self, payload: &mut [u8; MAX_PAYLOAD]) -> Option<Step<'a>>
         ensures steps { LetsOn (told_step result payload.new) (to_come B.make self.old) (to_come B.make self.new) self.new.releasing }
         ensures buffer { payload.new ≡ filled (step_wrote (told_step result payload.new)) payload.old }
+        ensures within { payload_length result ≤ 64 }
     {
         let at = self.releasing?;
         let stage = replace(&mut self.stage, Stage::Silent);
@@ -62,6 +63,7 @@ impl<'a, B: Block> Walk<'a, B> {
     fn hear(&mut self) -> Option<Step<'a>>
         requires { self.old.releasing ≡ None }
         ensures steps { (buffer : List ℕ) → StepsOn (told_step result buffer) (to_come B.make self.old) (to_come B.make self.new) }
+        ensures within { payload_length result ≤ 64 }
         ensures quiet { (buffer : List ℕ) → step_wrote (told_step result buffer) ≡ [] }
     {
         let record = self.records.next()?;
@@ -72,10 +74,12 @@ impl<'a, B: Block> Walk<'a, B> {
         Some(Step::Heard(record, outcome))
     }
 
-    // The next step; none at the end of the records.
+    // The next step; none at the end of the records. A `match`, since `hear` asks that nothing is going out, which a closure
+    // could not know.
     pub fn next(&mut self, payload: &mut [u8; MAX_PAYLOAD]) -> Option<Step<'a>>
         ensures steps { StepsOn (told_step result payload.new) (to_come B.make self.old) (to_come B.make self.new) }
         ensures buffer { payload.new ≡ filled (step_wrote (told_step result payload.new)) payload.old }
+        ensures within { payload_length result ≤ 64 }
     {
         match self.let_out(payload) {
             Some(step) => Some(step),

@@ -22,7 +22,7 @@ pub(super) fn unused<B: Block>(last: Key, size: ChainSize) -> [Level<Key>; LEVEL
     }; LEVELS];
     let mut key = last;
     let mut place = n;
-    // By index: a proof knows nothing of what a reversed `iter_mut` writes.
+    // By index: a reversed `iter_mut` was tried, and a proof knows nothing of what it writes.
     for j in (0..size.bits as usize).rev() {
         let lower = 2 << j;
         key = down::<B>(key, place - lower);

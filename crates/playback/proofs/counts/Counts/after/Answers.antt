@@ -1,10 +1,16 @@
-use Rattle.std.proofs.Common.{refl, arith}
+use Rattle.std.proofs.Common.{◌≤◌, Some, refl, subst, arith, rules}
+use Rattle.playback.specs.Walks.{payload_length}
 use Rattle.playback.proofs.Orders.{order_after, order_fits, puts_nothing}
 use Rattle.playback.proofs.counts.Counts.after.Goals as goal
 
+pub slice_bounds-order-end : goal.slice_bounds-order-end
+slice_bounds-order-end c =
+    let within : c.in-Out.released.length ≤ 64 = subst (λ s. payload_length (Some s) ≤ 64) c.in-Out.is c.requires.step_bound in
+    search rules
+
 pub put_order-requires-clause-order_in_bounds : goal.put_order-requires-clause-order_in_bounds
 put_order-requires-clause-order_in_bounds c =
-    let fits = order_fits c.in-Out.at c.in-Out.released c.args.payload.now c.if-released.true _ refl _ c.in-Out.is _ _ c.requires in
+    let fits = order_fits c.in-Out.at c.in-Out.released c.args.payload.now c.if-released.true _ refl _ c.in-Out.is _ _ c.requires.step_fits in
     fits.1
 
 pub returns-in-Heard : goal.returns-in-Heard
