@@ -1,12 +1,12 @@
 -- The tag over what a data packet's fields spell is the packet's tag.
-use Rattle.std.proofs.Common.{◌≡◌, ℕ, ◌+◌, ◌≤◌, Bool, true, false, cond, leb, List, length, take, drop, Ok, Err, Result, refl, ap, ◌∙◌, arith}
+use Rattle.std.proofs.Common.{◌≡◌, ℕ, ◌+◌, Bool, true, false, cond, leb, List, length, take, drop, Ok, Err, Result, refl, ap, ◌∙◌, arith}
 use Rattle.std.proofs.lemmas.List.{take_at}
 use Rattle.std.proofs.lemmas.Bool.{le-leb, leb-true, cond-true}
 use Rattle.refusal.specs.declared.Refusal.{Refusal}
 use Rattle.refusal.specs.declared.Refusal.TheVariants.{TooLong}
 use Rattle.cipher.specs.Blocks.{Make}
 use Rattle.cipher.specs.declared.key.Key.{Key}
-use Rattle.chain.specs.Tag.{tag, tagged}
+use Rattle.chain.specs.Tag.{tagged}
 use Rattle.chain.specs.Chain.{interval_tag_key}
 use Rattle.packet.specs.Kinds.{Data}
 use Rattle.packet.specs.Layouts.{data_covered}
