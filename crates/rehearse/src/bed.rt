@@ -1,4 +1,4 @@
-// The needle bed: a base whose two sources draw from one chain, and tell what they send.
+// The needle bed: a base whose two sources draw from one chain. It tells what it sends.
 use crate::sent::{MAX_PACKET, Sent};
 use anyhow::anyhow;
 use base::{Base, Schedule};
@@ -16,6 +16,7 @@ const LAST: Key = Key {
     high: 0x0011223344556677,
     low: 0x8899aabbccddeeff,
 };
+
 // Interval 0 begins at this time; an interval lasts 100,000; a key is disclosed two intervals after its own.
 pub(crate) const SCHEDULE: Schedule = Schedule {
     start: 1_000_000,
@@ -52,24 +53,26 @@ impl Bed {
     ) -> anyhow::Result<Sent> {
         let mut buffer = [0; MAX_PACKET];
         let made = self.base.make(time, payload.as_bytes(), &mut buffer);
-        match made {
-            Ok(length) => println!(rt; "{time} base makes \"{payload}\": {length} bytes")?,
-            Err(refusal) => println!(rt; "{time} base makes an order: {}", Numbered(refusal))?,
-        }
-        Ok(Sent::front(rt.alloc(), &buffer, made.unwrap_or(0))?)
+        let length = made.map_err(|refusal| anyhow!(
+            "{time} base makes an order: {}",
+            Numbered(refusal)
+        ))?;
+        println!(rt; "{time} base makes \"{payload}\": {length} bytes")?;
+        Ok(Sent::front(rt.alloc(), &buffer, length)?)
     }
 
     pub(crate) fn disclose(&mut self, rt: &HostRuntime, time: u64) -> anyhow::Result<Sent> {
         let mut buffer = [0; MAX_PACKET];
         let disclosed = self.base.disclose(time, &mut buffer);
-        let sent = Sent::front(rt.alloc(), &buffer, disclosed.unwrap_or(0))?;
-        match disclosed {
-            Ok(_) => println!(rt;
-                "{time} base discloses the key of interval {}",
-                sent.interval()
-            )?,
-            Err(refusal) => println!(rt; "{time} base discloses a key: {}", Numbered(refusal))?,
-        }
+        let length = disclosed.map_err(|refusal| anyhow!(
+            "{time} base discloses a key: {}",
+            Numbered(refusal)
+        ))?;
+        let sent = Sent::front(rt.alloc(), &buffer, length)?;
+        println!(rt;
+            "{time} base discloses the key of interval {}",
+            sent.interval()?
+        )?;
         Ok(sent)
     }
 

@@ -132,7 +132,7 @@ impl Carriage {
         sent: &Sent,
     ) -> anyhow::Result<()> {
         let name = self.name;
-        let interval = sent.interval();
+        let interval = sent.interval()?;
         let at = self.hear(time, sent)?;
         match self.receiver.key(at, sent.packet()) {
             Ok(steps) => println!(rt;
@@ -152,7 +152,7 @@ impl Carriage {
     // Releases until none is left.
     fn let_out(&mut self, rt: &HostRuntime, time: u64) -> anyhow::Result<()> {
         let name = self.name;
-        // A `while let` is no plainer: it would need a measure over the receiver's state, and this count always suffices.
+        // At most one release for each place, and then none: the count says that it ends.
         for _ in 0..=PLACES {
             let mut buffer = [0; MAX_PAYLOAD];
             match self.receiver.release(&mut buffer) {
@@ -195,6 +195,6 @@ impl Carriage {
     }
 
     pub(crate) fn same_log(&self, other: &Carriage) -> bool {
-        self.log.as_str() == other.log.as_str()
+        self.log == other.log
     }
 }

@@ -1,10 +1,12 @@
 // What is sent by radio.
+use anyhow::anyhow;
+use packet::read_key;
 use std::alloc::{AllocError, Global};
 
 // The longest packet has 76 bytes.
 pub const MAX_PACKET: usize = 76;
 
-// A packet on its way; it has no bytes where a call refused to write one.
+// A packet on its way.
 #[derive(Drop)]
 pub struct Sent {
     bytes: Vec<u8>,
@@ -21,12 +23,11 @@ impl Sent {
         self.bytes.as_slice()
     }
 
-    // The interval of a data or key packet.
-    pub(crate) fn interval(&self) -> u16 {
-        match self.packet() {
-            [_, high, low, ..] => u16::from_be_bytes([*high, *low]),
-            _ => 0,
-        }
+    // The interval of the key that is sent.
+    pub(crate) fn interval(&self) -> anyhow::Result<u16> {
+        let read = read_key(self.packet());
+        let disclosure = read.map_err(|_| anyhow!("what is sent is not a key"))?;
+        Ok(disclosure.interval)
     }
 
     // The same with one byte changed on the way.

@@ -16,6 +16,7 @@ fn run(rt: &HostRuntime) -> Result<(), Fault> {
     let capture = standard_input(rt, MAX_CAPTURE)?;
     let mut out = vec![in rt.alloc(); 0u8; capture.len()]?;
     let counts = replay(pair, &capture, &mut out)?;
-    let end = counts.written.min(out.len());
-    rt.stdout().write_all(&out[..end]).map_err(Fault::Unwritten)
+    rt.stdout()
+        .write_all(&out[..counts.written])
+        .map_err(Fault::Unwritten)
 }

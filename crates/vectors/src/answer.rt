@@ -17,15 +17,15 @@ pub enum Verdict {
 pub enum Answer<'a> {
     Passed(&'a str),
     Read(&'a str, Value, Verdict),
-    Unread(Fault, &'a str),
+    Unread(Fault, Option<&'a str>),
 }
 
 impl fmt::Display for Answer<'_> {
     fn fmt<W: fmt::Write>(&self, f: &mut fmt::Formatter<W>) -> fmt::Result {
         match self {
             Answer::Passed(line) => write!(f, "{line}"),
-            Answer::Unread(fault, "") => write!(f, "? {fault}"),
-            Answer::Unread(fault, line) => write!(f, "? {fault}: {line}"),
+            Answer::Unread(fault, None) => write!(f, "? {fault}"),
+            Answer::Unread(fault, Some(line)) => write!(f, "? {fault}: {line}"),
             Answer::Read(case, value, verdict) => {
                 write!(f, "{case} = {}", Shown(value))?;
                 if let Err(refusal) = value {
@@ -76,7 +76,7 @@ fn read_answer<'a>(heap: Global, line: &'a str) -> Result<Answer<'a>, Trouble<Fa
 pub(crate) fn answer_to<'a>(heap: Global, bytes: &'a [u8]) -> Result<Answer<'a>, AllocError> {
     match from_utf8(bytes) {
         Ok(line) => answered(heap, line.trim_end()),
-        Err(_) => Ok(Answer::Unread(Fault::NotText, "")),
+        Err(_) => Ok(Answer::Unread(Fault::NotText, None)),
     }
 }
 
@@ -87,5 +87,5 @@ fn answered<'a>(heap: Global, line: &'a str) -> Result<Answer<'a>, AllocError> {
         return Ok(Answer::Passed(line));
     }
     let read = apart(read_answer(heap, line))?;
-    Ok(read.unwrap_or_else(|fault| Answer::Unread(fault, line)))
+    Ok(read.unwrap_or_else(|fault| Answer::Unread(fault, Some(line))))
 }
