@@ -39,7 +39,8 @@ fn is_drift(drift: u32) -> bool
     drift <= MAX_DRIFT
 }
 
-// The delay and the duration of an answer's schedule are within their limits.
+// The delay and the duration of an answer's schedule are within their limits. The base asks the same of its own in the order
+// of its rule; a function for both would be no shorter.
 fn is_rhythm(answer: &Answer) -> bool
     ensures { result ≡ rhythm_fits (answer_said answer.now) }
 {

@@ -11,7 +11,7 @@ use cipher::Block;
 use node::{Receiver, Released};
 use packet::MAX_PAYLOAD;
 
-// A buffer of this length is never refused.
+// A buffer of this length is never refused. A release is a plain record, so its bound is told here and not in its type.
 fn let_out<B: Block>(
     receiver: &mut Receiver<B>,
     payload: &mut [u8; MAX_PAYLOAD],

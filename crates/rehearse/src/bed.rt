@@ -34,6 +34,7 @@ fn new_source(of: &str) -> anyhow::Result<Pebbled<Rc5>> {
     Pebbled::make(LAST, BITS).map_err(|_| anyhow!("the chain of {of} cannot be made"))
 }
 
+// The runtime and a time go side by side through these calls: each has a time of its own.
 impl Bed {
     pub(crate) fn new() -> anyhow::Result<Bed> {
         let commitment = down::<Rc5>(LAST, COUNT);
