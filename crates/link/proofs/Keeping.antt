@@ -56,10 +56,6 @@ module _ {X : Type 0} where
       go ih true e = absurd (omega (arith, ap length (rw e at h)))
       go ih false e = rw e (ap (λ l. x ∷ l) (ih (rw e at h)))
 
-  pub kept_same : (f g : X → Bool) → ((x : X) → f x ≡ g x) → (xs : List X) → filter f xs ≡ filter g xs
-  kept_same f g h [] = refl
-  kept_same f g h (x ∷ xs) = rw (h x, kept_same f g h xs)
-
   pub kept_fewer : (f : X → Bool) (xs : List X) → length (filter f xs) ≤ length xs
   kept_fewer f [] = omega arith
   kept_fewer f (x ∷ xs) = go (kept_fewer f xs) (f x) refl
@@ -67,10 +63,6 @@ module _ {X : Type 0} where
       go : length (filter f xs) ≤ length xs → (a : Bool) → f x ≡ a → length (filter f (x ∷ xs)) ≤ length (x ∷ xs)
       go ih true e = rw e (omega arith)
       go ih false e = rw e (omega arith)
-
-  pub empty_list : (xs : List X) → length xs ≡ 0 → xs ≡ []
-  empty_list [] h = refl
-  empty_list (x ∷ xs) h = absurd (omega arith)
 
   pub kept_map : {Y : Type 0} (f : X → Bool) (g : Y → X) (ys : List Y) → map g (filter (λ y. f (g y)) ys) ≡ filter f (map g ys)
   kept_map f g [] = refl

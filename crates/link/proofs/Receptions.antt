@@ -1,14 +1,14 @@
 -- What holds of a receiver after any deeds: by induction, over any packets, keys and clock.
 use Rattle.std.proofs.Common.{◌≡◌, ℕ, zero, suc, ◌+◌, ◌-◌, ◌<◌, ◌≤◌, Bool, true, false, not, eqb, List, [], ◌∷◌, ◌++◌, map, length, Decides, filter, sym, refl, ap, ◌∙◌, subst, inl, inr, append_assoc, append-nil, arith}
 use Rattle.std.specs.List.{AllByRecursion}
-use Rattle.std.proofs.lemmas.List.Elements.{filter-append}
+use Rattle.std.proofs.lemmas.List.Elements.{filter-append, filter_agree}
 use Rattle.std.proofs.ByRecursion.{kept_by_passes, All-push, All-weaker, All-append, all_kept_by}
-use Rattle.std.proofs.lemmas.List.{map-append, length-append, length-map}
+use Rattle.std.proofs.lemmas.List.{map-append, length-append, length-map, nil_from_length}
 use Rattle.std.proofs.lemmas.Bool.Decides.{same_from_decides}
 use Rattle.std.proofs.lemmas.Bool.{true≢false, eqb-true, eq-eqb, cases_lt, cases_Bool, not_from_false}
 use Rattle.link.specs.Intervals.{of_interval, upto}
 use Rattle.link.specs.Reception.{World, State, Deed, refuses, takes, adopts, releases, rests, Taking, Outcome, Sound, has, right_now, known, next, taken_by, given_by, taken, given, after}
-use Rattle.link.proofs.Keeping.{kept_in, kept_whole, kept_comm, kept_none, kept_fewer, kept_same, kept_map, empty_list, one_only}
+use Rattle.link.proofs.Keeping.{kept_in, kept_whole, kept_comm, kept_none, kept_fewer, kept_map, one_only}
 use Rattle.link.proofs.Uptos.{upto_push_above, upto_more, upto_kept, upto_within, upto_nil}
 
 -- what is known of packets, keys and clock
@@ -187,7 +187,7 @@ module _ {P K : Type 0} (w : World P K) (laws : Laws w) where
       shorter = (rw (same_self p) refl) ∙ counted
 
       none : filter (w.same p) h.rest ≡ []
-      none = empty_list _ (omega (arith, ap length shorter, sound.apart p))
+      none = nil_from_length _ (omega (arith, ap length shorter, sound.apart p))
 
   release_sound : (s : State P K) (p : P) (v : Bool) → Sound w s → Sound w (next w s (releases p v))
   release_sound s p v sound = record {
@@ -287,12 +287,12 @@ module _ {P K : Type 0} (w : World P K) (laws : Laws w) where
 
       -- the packet released has not gone out before
       pub not_before : filter (w.same p) (gone os) ≡ []
-      not_before = empty_list _ (omega (arith, counts, k.once p))
+      not_before = nil_from_length _ (omega (arith, counts, k.once p))
 
       -- and is the one taken packet that fits, for a test that only it fits
       pub one_taken : (fits : P → Bool) → ((x : P) → Decides (fits x) (p ≡ x)) → (x : Taking P) × (filter (λ y. fits y.packet) ts ≡ x ∷ []) × (x.packet ≡ p) × Timely w x
       one_taken fits only =
-          let both : filter fits (packets ts) ≡ filter (w.same p) (packets ts) = kept_same fits (w.same p) (λ x. same_from_decides (fits x) (w.same p x) (only x) (laws.equal p x)) (packets ts) in
+          let both : filter fits (packets ts) ≡ filter (w.same p) (packets ts) = filter_agree fits (w.same p) (λ x. same_from_decides (fits x) (w.same p x) (only x) (laws.equal p x)) (packets ts) in
           let long : length (filter (λ (y : Taking P). fits y.packet) ts) ≡ length (filter (w.same p) (packets ts)) = sym (length-map _ _) ∙ ap length (kept_map fits (λ (y : Taking P). y.packet) ts ∙ both) in
           let found = one_only (filter (λ (y : Taking P). fits y.packet) ts) (omega (arith, long, counts, k.once p)) in
           let fit : fits found.0.packet ≡ true = (subst (AllByRecursion (λ (y : Taking P). fits y.packet ≡ true)) found.1 (kept_by_passes (λ (y : Taking P). fits y.packet) ts)).0 in

@@ -2,7 +2,7 @@
 use Rattle.std.proofs.Common.{◌≡◌, ℕ, suc, ◌<◌, ◌≤◌, Bool, true, not, List, [], ◌∷◌, ◌++◌, length, get_or, take, drop, filter, sym, refl, ap, ◌∙◌, subst, add-one, arith}
 use Rattle.std.specs.List.{remove}
 use Rattle.std.proofs.lemmas.List.Elements.{filter-append}
-use Rattle.std.proofs.lemmas.List.{length-append, take-append-drop, drop_more}
+use Rattle.std.proofs.lemmas.List.{length-append, take-append-drop, drop_more, nil_from_length}
 use Rattle.std.proofs.lemmas.Bool.{le-leb, lt-leb}
 use Rattle.refusal.specs.declared.Refusal.TheVariants.{BufferTooShort}
 use Rattle.cipher.specs.Blocks.{Make}
@@ -12,7 +12,7 @@ use Rattle.packet.specs.Writing.{filled}
 use Rattle.packet.proofs.BufferLaws.{filled_none}
 use Rattle.link.specs.Reception.{Deed, refuses, releases, rests, known, right_now, first_out, others}
 use Rattle.link.specs.Receiver.{Receiver, Call, Answer, to_release, world, deed, told, same_packet, answer, then}
-use Rattle.link.proofs.Keeping.{kept_none, empty_list}
+use Rattle.link.proofs.Keeping.{kept_none}
 use Rattle.link.proofs.Receivers.{packet_decides}
 use Rattle.node.specs.Answers.{written}
 use Rattle.node.specs.Places.{FirstAt}
@@ -27,8 +27,8 @@ module _ (p : Data) where
   parted front behind once =
       let found : filter (same_packet p) (front ++ p ∷ behind) ≡ filter (same_packet p) front ++ p ∷ filter (same_packet p) behind = filter-append (same_packet p) front (p ∷ behind) ∙ rw self_same refl in
       let total = ap length found ∙ length-append (filter (same_packet p) front) (p ∷ filter (same_packet p) behind) in
-      let none_before : filter (same_packet p) front ≡ [] = empty_list _ (omega (arith, total, once)) in
-      let none_behind : filter (same_packet p) behind ≡ [] = empty_list _ (omega (arith, total, once)) in
+      let none_before : filter (same_packet p) front ≡ [] = nil_from_length _ (omega (arith, total, once)) in
+      let none_behind : filter (same_packet p) behind ≡ [] = nil_from_length _ (omega (arith, total, once)) in
       filter-append (λ q. not (same_packet p q)) front (p ∷ behind) ∙ rw self_same (λ i. kept_none (same_packet p) front none_before i ++ kept_none (same_packet p) behind none_behind i)
 
 pub others_removed : (p : Data) (ps : List Data) (place : ℕ) → place < length ps → get_or ps place p ≡ p → length (filter (same_packet p) ps) ≤ 1 → filter (λ q. not (same_packet p q)) ps ≡ remove ps place

@@ -1,5 +1,7 @@
 -- The orders that come out of records are no longer than the records, and can be written where the records can.
 use Rattle.std.proofs.Common.{◌≡◌, ℕ, zero, suc, ◌+◌, ◌-◌, ◌≤◌, Bool, true, false, not, List, [], ◌∷◌, ◌++◌, map, length, drop, replicate, Some, None, Ok, Err, filter, Option, Result, refl, ap, ◌∙◌, subst, arith}
+use Rattle.std.proofs.lemmas.List.Concat.{flat_map-append}
+use Rattle.std.proofs.lemmas.List.Folds.{flat_map-map}
 use Rattle.std.specs.List.{flat_map, AllByRecursion}
 use Rattle.std.proofs.ByRecursion.{All-append, all_kept_by, All-push, All-weaker}
 use Rattle.std.proofs.lemmas.List.{length-drop, length-take-le}
@@ -24,7 +26,7 @@ use Rattle.link.proofs.Receivers.{packet_decides, deed_allowed}
 use Rattle.node.proofs.Deeds.{read_ok}
 use Rattle.playback.specs.Parts.{Part, silent, asking, receiving, asks, joins, offers, until_none, behind, with_releases, calls, next}
 use Rattle.playback.specs.Playing.{total}
-use Rattle.playback.proofs.JoinedLists.{joined_append, joined_map, length_records, total_append}
+use Rattle.playback.proofs.JoinedLists.{length_records, total_append}
 use Rattle.playback.specs.Steps.{let_out, let_outs, walked, order_out, order_of, orders}
 
 -- the bytes of the records that brought packets
@@ -176,7 +178,7 @@ module _ (cipher : Make) where
   unfolding after released answers answer then
   calls_spend x [] r = nothing x _ 0
   calls_spend x (call ∷ calls) r =
-      rw (joined_append (order_out x.seconds x.micros) (outs (answer cipher r call)) (released cipher (then cipher r call) calls))
+      rw (flat_map-append (order_out x.seconds x.micros) (outs (answer cipher r call)) (released cipher (then cipher r call) calls))
       (onward x (deed_spends cipher r x (carried call) (deed cipher r call) (deed_allowed cipher r call) (deed_brings r call)) (calls_spend x calls (then cipher r call)))
 
   releases_carry : (n : ℕ) → carries (replicate n (to_release 64)) ≡ 0
@@ -225,7 +227,7 @@ module _ (cipher : Make) (pair : Key) where
   unfolding walked
   walked_orders part x xs =
       let here = map (let_out x.seconds x.micros) (let_outs cipher part x) in
-      joined_append order_of here _ ∙ ap (λ ys. ys ++ flat_map order_of (walked cipher pair (next cipher pair part x) xs)) (joined_map order_of (let_out x.seconds x.micros) (let_outs cipher part x))
+      flat_map-append order_of here _ ∙ ap (λ ys. ys ++ flat_map order_of (walked cipher pair (next cipher pair part x) xs)) (flat_map-map order_of (let_out x.seconds x.micros) (let_outs cipher part x))
 
   walked_fit : (xs : List Record) (part : Part) → total (flat_map order_of (walked cipher pair part xs)) ≤ weight (held_by part) + total xs
   unfolding walked

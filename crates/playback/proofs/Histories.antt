@@ -1,5 +1,6 @@
 -- The orders of a replay are the true releases of the history that it ran, and none is lost.
 use Rattle.std.proofs.Common.{◌≡◌, ℕ, true, false, List, [], ◌∷◌, ◌++◌, map, Ok, Err, Result, sym, refl, ap, ◌∙◌, subst, append_assoc}
+use Rattle.std.proofs.lemmas.List.Concat.{flat_map-append}
 use Rattle.std.specs.List.{flat_map}
 use Rattle.std.proofs.lemmas.List.{map-append}
 use Rattle.refusal.specs.declared.Refusal.{Refusal}
@@ -16,7 +17,6 @@ use Rattle.link.proofs.Theorem.{link_stands}
 use Rattle.playback.specs.Parts.{Part, silent, asking, receiving, asks, calls, joins, next}
 use Rattle.playback.specs.Steps.{let_out, let_outs, order_of, payload_out, walked}
 use Rattle.playback.specs.Replays.{history, JoinIn, part_after, ReplayStands}
-use Rattle.playback.proofs.JoinedLists.{joined_append}
 use Rattle.playback.proofs.Complete.{history_judged}
 
 -- what a list of calls lets out, and then another
@@ -46,7 +46,7 @@ module _ (cipher : Make) (pair : Key) where
   one_more : (part : Part) (x : Record) (xs : List Record) → payloads_of part (x ∷ xs) ≡ flat_map payload_out (let_outs cipher part x) ++ payloads_of (next cipher pair part x) xs
   unfolding payloads_of walked
   one_more part x xs =
-      ap (map (λ x. x.bytes)) (joined_append order_of (map (let_out x.seconds x.micros) (let_outs cipher part x)) (walked cipher pair (next cipher pair part x) xs))
+      ap (map (λ x. x.bytes)) (flat_map-append order_of (map (let_out x.seconds x.micros) (let_outs cipher part x)) (walked cipher pair (next cipher pair part x) xs))
       ∙ orders_split x.seconds x.micros (let_outs cipher part x) _
 
   -- from a receiver on
@@ -56,7 +56,7 @@ module _ (cipher : Make) (pair : Key) where
   by_history r (x ∷ xs) =
       one_more (receiving r) x xs
       ∙ ap (λ l. flat_map payload_out (released cipher r (calls cipher r x)) ++ l) (by_history (after cipher r (calls cipher r x)) xs)
-      ∙ sym (joined_append payload_out (released cipher r (calls cipher r x)) _)
+      ∙ sym (flat_map-append payload_out (released cipher r (calls cipher r x)) _)
       ∙ ap (flat_map payload_out) (sym (released_append cipher (calls cipher r x) _ r))
 
   -- no receiver yet

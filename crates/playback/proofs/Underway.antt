@@ -1,5 +1,6 @@
 -- Part-way through the steps of a walk: what is counted and written so far, and what is left.
 use Rattle.std.proofs.Common.{◌≡◌, ℕ, ◌+◌, ◌≤◌, List, [], ◌∷◌, ◌++◌, length, sym, refl, ap, ◌∙◌, subst, append_assoc, arith}
+use Rattle.std.proofs.lemmas.List.Concat.{flat_map-append}
 use Rattle.std.specs.List.{flat_map, AllByRecursion}
 use Rattle.std.proofs.lemmas.List.{length-append}
 use Rattle.packet.specs.Writing.{filled, Puts}
@@ -9,7 +10,7 @@ use Rattle.link.proofs.Asking.{all_behind}
 use Rattle.playback.specs.declared.counts.Counts.{Counts}
 use Rattle.playback.specs.Steps.{Step, order_of}
 use Rattle.playback.specs.Counting.{Counted, order_bytes, orders_bytes, read_in, Regular, StepFits, StepsFit}
-use Rattle.playback.proofs.JoinedLists.{all_in_front, joined_append}
+use Rattle.playback.proofs.JoinedLists.{all_in_front}
 use Rattle.playback.proofs.Orders.{puts_nothing}
 
 pub record UnderWay (all left : List Step) (c : Counts) (start buffer : List ℕ) : Type 0 where
@@ -36,7 +37,7 @@ module _ (all left : List Step) (s : Step) (c : Counts) (start buffer : List ℕ
   long : length (records_bytes Little on.done) + length (order_bytes s) ≤ length (orders_bytes all)
   long =
       let bytes : records_bytes Little on.done ++ (order_bytes s ++ records_bytes Little (flat_map order_of left)) ≡ orders_bytes all =
-      ap (λ b. records_bytes Little on.done ++ b) (sym (joined_append (record_bytes Little) (order_of s) _)) ∙ sym (joined_append (record_bytes Little) on.done _) ∙ ap (records_bytes Little) split in
+      ap (λ b. records_bytes Little on.done ++ b) (sym (flat_map-append (record_bytes Little) (order_of s) _)) ∙ sym (flat_map-append (record_bytes Little) on.done _) ∙ ap (records_bytes Little) split in
       let whole : length (records_bytes Little on.done) + (length (order_bytes s) + length (records_bytes Little (flat_map order_of left))) ≡ length (orders_bytes all) =
       sym (length-append _ _ ∙ ap (λ n. length (records_bytes Little on.done) + n) (length-append _ _)) ∙ ap length bytes in
       omega arith
@@ -53,6 +54,6 @@ module _ (all left : List Step) (s : Step) (c : Counts) (start buffer : List ℕ
     read = let a = counted.read in let b = on.read in omega arith;
     done = on.done ++ order_of s;
     orders = append_assoc on.done (order_of s) _ ∙ split;
-    written = counted.written ∙ ap (λ n. n + length (order_bytes s)) on.written ∙ (let l = sym (length-append (records_bytes Little on.done) (order_bytes s)) ∙ sym (ap length (joined_append (record_bytes Little) on.done (order_of s))) in omega arith);
-    puts = subst (λ b. Puts 24 b start after) (sym (joined_append (record_bytes Little) on.done (order_of s))) (puts_on 24 c.written _ _ start buffer after on.written on.puts counted.puts);
+    written = counted.written ∙ ap (λ n. n + length (order_bytes s)) on.written ∙ (let l = sym (length-append (records_bytes Little on.done) (order_bytes s)) ∙ sym (ap length (flat_map-append (record_bytes Little) on.done (order_of s))) in omega arith);
+    puts = subst (λ b. Puts 24 b start after) (sym (flat_map-append (record_bytes Little) on.done (order_of s))) (puts_on 24 c.written _ _ start buffer after on.written on.puts counted.puts);
   }
