@@ -89,24 +89,15 @@ joins_packet cipher node t bytes = go (is_kind 2 bytes) refl
         read_as (joined_by cipher node t bytes) to bytes (λ k p. unread) (λ k. absurd (true≢false (sym k ∙ e))) (λ p. unread) (λ p. unread) (λ r. unread)
 
 -- the node after bytes, by what they read as
-module _ (cipher : Make) (pair : Key) (t : ℕ) (bytes : List ℕ) where
-  unread_part : (part : Part) (r : Refusal) → Err r ≡ read_packet bytes → part ≡ heard_part cipher pair part t bytes
-  unread_part silent r e = ap (asked_by pair t) e ∙ asks_packet pair t bytes
-  unread_part (asking node) r e = ap (joined_by cipher node t bytes) e ∙ joins_packet cipher node t bytes
-  unread_part (receiving receiver) r e = ap (λ p. receiving (called cipher receiver (offers t bytes p))) e
+module _ (cipher : Make) (pair : Key) (t : ℕ) (bytes : List ℕ) (part before : Part) (outcome : Hearing) where
+  pub heard_silent : before ≡ silent → part ≡ asked_by pair t (read_packet bytes) → outcome ≡ read_hearing cipher silent t bytes (read_packet bytes) → Heard cipher pair before t bytes part outcome
+  heard_silent is says hears = record {
+    part = says ∙ asks_packet pair t bytes ∙ ap (λ b. heard_part cipher pair b t bytes) (sym is);
+    outcome = hears ∙ ap (λ b. read_hearing cipher b t bytes (read_packet bytes)) (sym is);
+  }
 
-  pub heard_unread : (part : Part) (r : Refusal) → Err r ≡ read_packet bytes → Heard cipher pair part t bytes part (answered (refused r))
-  heard_unread part r e = record { part = unread_part part r e; outcome = ap (read_hearing cipher part t bytes) e }
-
-  module _ (part before : Part) (outcome : Hearing) (p : Packet) (e : Ok p ≡ read_packet bytes) where
-    pub heard_silent : before ≡ silent → part ≡ asked_by pair t (Ok p) → outcome ≡ packet_hearing cipher silent t bytes p → Heard cipher pair before t bytes part outcome
-    heard_silent is says hears = record {
-      part = says ∙ ap (asked_by pair t) e ∙ asks_packet pair t bytes ∙ ap (λ b. heard_part cipher pair b t bytes) (sym is);
-      outcome = hears ∙ ap (read_hearing cipher silent t bytes) e ∙ ap (λ b. read_hearing cipher b t bytes (read_packet bytes)) (sym is);
-    }
-
-    pub heard_asking : (node : Node) → before ≡ asking node → part ≡ joined_by cipher node t bytes (Ok p) → outcome ≡ packet_hearing cipher (asking node) t bytes p → Heard cipher pair before t bytes part outcome
-    heard_asking node is says hears = record {
-      part = says ∙ ap (joined_by cipher node t bytes) e ∙ joins_packet cipher node t bytes ∙ ap (λ b. heard_part cipher pair b t bytes) (sym is);
-      outcome = hears ∙ ap (read_hearing cipher (asking node) t bytes) e ∙ ap (λ b. read_hearing cipher b t bytes (read_packet bytes)) (sym is);
-    }
+  pub heard_asking : (node : Node) → before ≡ asking node → part ≡ joined_by cipher node t bytes (read_packet bytes) → outcome ≡ read_hearing cipher (asking node) t bytes (read_packet bytes) → Heard cipher pair before t bytes part outcome
+  heard_asking node is says hears = record {
+    part = says ∙ joins_packet cipher node t bytes ∙ ap (λ b. heard_part cipher pair b t bytes) (sym is);
+    outcome = hears ∙ ap (λ b. read_hearing cipher b t bytes (read_packet bytes)) (sym is);
+  }

@@ -83,7 +83,9 @@ fn put_header(link: u32, out: &mut [u8])
     requires { 24 ≤ length out.old }
     ensures { out.new ≡ filled (header_bytes (header_out link)) out.old }
 {
-    let _ = Header::of_records(RecordFormat::WRITTEN, link).write(out);
+    Header::of_records(RecordFormat::WRITTEN, link)
+        .write(out)
+        .unwrap();
 }
 
 // Does with a capture what a node of this pair did, and writes the orders that were proved, as a capture.

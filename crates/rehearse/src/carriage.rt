@@ -155,22 +155,16 @@ impl Carriage {
         // At most one release for each place, and then none: the count says that it ends.
         for _ in 0..=PLACES {
             let mut buffer = [0; MAX_PAYLOAD];
-            match self.receiver.release(&mut buffer) {
-                Ok(Some(released)) => {
-                    let payload = &buffer[..released.length.min(MAX_PAYLOAD)];
-                    let order = Order { released, payload };
-                    println!(rt; "{time} {name} releases: {order}")?;
-                    writeln!(self.log, "  {order}")?;
-                }
-                Ok(None) => {
-                    println!(rt; "{time} {name} releases: none")?;
-                    break;
-                }
-                Err(refusal) => {
-                    println!(rt; "{time} a release: {}", Numbered(refusal))?;
-                    break;
-                }
-            }
+            let released = self.receiver.release(&mut buffer);
+            let released = released.map_err(|refusal| anyhow!("a release: {}", Numbered(refusal)))?;
+            let Some(released) = released else {
+                println!(rt; "{time} {name} releases: none")?;
+                break;
+            };
+            let payload = &buffer[..released.length.min(MAX_PAYLOAD)];
+            let order = Order { released, payload };
+            println!(rt; "{time} {name} releases: {order}")?;
+            writeln!(self.log, "  {order}")?;
         }
         Ok(())
     }
