@@ -1,4 +1,4 @@
-"""An independent model of captures and replay over checks/model.py, and of what the program `explain` prints.
+"""An independent model of captures and replay over checks/model.py, and of what `explain` and `orders` print.
 
 Written from docs/PROTOCOL.md; run as a program it holds itself to the complete example there."""
 import pathlib
@@ -118,23 +118,38 @@ def shown(payload):
     return f'"{payload.decode("ascii")}"' if plain else payload.hex()
 
 
+def shown_time(t):
+    """a reading in seconds"""
+    return f'{t // 10 ** 6}.{t % 10 ** 6:06}'
+
+
+def unread(capture, read):
+    """the line that tells of bytes that are not read, where there are any"""
+    return [f'at byte {read}: an incomplete or irregular record ends the reading, '
+            f'{len(capture) - read} bytes are not read'] if read < len(capture) else []
+
+
+def orders(capture):
+    """the lines that `orders` prints for a capture that is granted"""
+    _, found, read = records(capture)
+    lines = [f'{shown_time(t)} {shown(data)}' for t, data in found]
+    return lines + unread(capture, read) + [f'orders {len(found)}']
+
+
 def explain(pair, capture):
     """the lines that `explain` prints for a capture that is granted"""
     _, heard, read = records(capture)
-    lines, orders, written = [], 0, 24
+    lines, proved, written = [], 0, 24
     for t, data, outcome, released in history(pair, heard):
-        time = f'{t // 10 ** 6}.{t % 10 ** 6:06}'
+        time = shown_time(t)
         lines.append(f'{time} {named(data)}: {outcome}')
         for interval, number, payload, right in released:
             if right:
-                orders, written = orders + 1, written + 16 + len(payload)
+                proved, written = proved + 1, written + 16 + len(payload)
             lines.append(f'{time} out: interval {interval}, number {number}, '
                          + (f'true, {shown(payload)}' if right else 'false'))
-    if read < len(capture):
-        lines.append(f'at byte {read}: an incomplete or irregular record ends the reading, '
-                     f'{len(capture) - read} bytes are not read')
-    lines.append(f'records {len(heard)}, bytes read {read} of {len(capture)}, orders {orders}, bytes written {written}')
-    return lines
+    return lines + unread(capture, read) + [
+        f'records {len(heard)}, bytes read {read} of {len(capture)}, orders {proved}, bytes written {written}']
 
 
 # the complete example, byte for byte as in the document
@@ -194,6 +209,11 @@ def main():
     assert big[:4] == bytes.fromhex('a1b2c3d4') and records(big) == ('big', *records(EXAMPLE)[1:])
     assert replay(pair, big) == (EXAMPLE_OUTPUT, 186) and explain(pair, big) == EXAMPLE_TEXT
     assert replay(pair, big[:-1]) == (empty, 151) and explain(pair, big[:-1]) == EXAMPLE_CUT_TEXT
+    assert orders(empty) == ['orders 0']
+    assert orders(EXAMPLE_OUTPUT) == orders(in_order(EXAMPLE_OUTPUT, 'big')) == ['7.100000 "racking +2"', 'orders 1']
+    assert orders(EXAMPLE[:66]) == [
+        '5.200000 010001020304050607',
+        'at byte 49: an incomplete or irregular record ends the reading, 17 bytes are not read', 'orders 1']
     assert refused(replay, pair, EXAMPLE, 185) == 14
     longest = EXAMPLE + bytes(LONGEST - len(EXAMPLE))
     assert refused(replay, pair, longest) is None

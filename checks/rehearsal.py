@@ -1,4 +1,4 @@
-"""What the program `rehearse` has to print, by the model.
+"""What the program `rehearse` has to print, and what its carriage A sends and hears, by the model.
 
 `rehearsal.py write` writes crates/rehearse/stdout; `rehearsal.py` says whether it is as this file has it."""
 import pathlib
@@ -17,16 +17,22 @@ MEANING = {
 
 class Carriage:
     def __init__(self, say, base, name, shift, time):
-        self.say, self.name, self.shift, self.log = say, name, shift, []
+        self.say, self.name, self.shift, self.log, self.heard = say, name, shift, [], []
         nonce = time.to_bytes(8, 'big')
-        asked = request(nonce)
+        asked = self.hear(time, request(nonce))
         say(f'{time} {name} asks to join: {len(asked)} bytes')
-        said = base.answer(time + 1000, PAIR, asked)
+        said = self.hear(time + 1000, base.answer(time + 1000, PAIR, asked))
         say(f'{time + 1000} base answers {name}: {len(said)} bytes')
         self.receiver = Receiver(Rc5, PAIR, nonce, time + shift, 1000, time + 1000 + shift, said)
         say(f'{time + 1000} {name} has joined')
 
+    def hear(self, time, data):
+        """what it sends and hears stands in its capture, with its own clock's reading"""
+        self.heard.append((time + self.shift, data))
+        return data
+
     def take(self, time, data, what):
+        self.hear(time, data)
         try:
             told = f'{self.receiver.take(time + self.shift, data)} held'
         except Refused as refusal:
@@ -34,6 +40,7 @@ class Carriage:
         self.say(f'{time} {self.name} takes {what}: {told}')
 
     def key(self, time, data):
+        self.hear(time, data)
         head = f'{time} {self.name} hears the key of interval {int.from_bytes(data[1:3], "big")}'
         try:
             self.say(f'{head}: granted, steps {self.receiver.key(time + self.shift, data)}')
@@ -48,7 +55,8 @@ class Carriage:
         self.say(f'{time} {self.name} releases: none')
 
 
-def text():
+def rehearsal():
+    """the text that is printed, and the readings and bytes of what carriage A sent and heard"""
     lines = []
     say = lines.append
     last = bytes.fromhex('00112233445566778899aabbccddeeff')
@@ -103,7 +111,11 @@ def text():
         lines.extend('  ' + line for line in carriage.log)
     assert a.log == b.log
     say('Both released lists are equal.')
-    return '\n'.join(lines) + '\n'
+    return '\n'.join(lines) + '\n', a.heard
+
+
+def text():
+    return rehearsal()[0]
 
 
 if __name__ == '__main__':

@@ -1,7 +1,8 @@
-"""Captures through the programs `replay` and `explain`, against the model: replays.py [COUNT [SEED [FOLDER]]].
+"""Captures through `replay`, `explain` and `orders`, and that of `rehearse`, against the model:
+replays.py [COUNT [SEED [FOLDER]]].
 
-COUNT random captures, 200 if it is not given, after those that are always tried; FOLDER holds the programs. If it is not
-given, they are those that `rt run` or `rt ci` left in crates/NAME/out. The first difference ends it."""
+COUNT random captures, 200 if it is not given, after those that are always tried; FOLDER holds the programs. If it is
+not given, they are those that `rt run` or `rt ci` left in crates/NAME/out. The first difference ends it."""
 import pathlib
 import random
 import re
@@ -11,8 +12,10 @@ import subprocess
 import sys
 import tempfile
 
-from captures import EXAMPLE, EXAMPLE_PAIR, LONGEST, ORDERS, explain, header, in_order, record, records, replay
+from captures import (EXAMPLE, EXAMPLE_PAIR, LONGEST, MEANING, ORDERS, explain, header, in_order, orders, record,
+                      records, replay)
 from model import Base, Rc5, Refused, derive, down, request, tag
+from rehearsal import PAIR, rehearsal
 
 ROOT = pathlib.Path(__file__).resolve().parent.parent
 SAMPLE = ROOT / 'sample'
@@ -311,19 +314,39 @@ def always():
 
 def in_rows(program, output):
     """an output as it can be shown: lines of text, or rows of 16 bytes in hexadecimal"""
-    rows = output.decode(errors='replace').split('\n') if program == 'explain' else [
+    rows = output.decode(errors='replace').split('\n') if program != 'replay' else [
         output[at:at + 16].hex(' ') for at in range(0, len(output), 16)]
     return rows + ['(the end)']
 
 
+def as_text(lines):
+    return ''.join(line + '\n' for line in lines).encode()
+
+
+def refusal(number, capture):
+    """the words with which a capture is refused"""
+    too_long = len(capture) > LONGEST
+    return f'refused {number}, {f"the input has more than {LONGEST} bytes" if too_long else MEANING[number]}'
+
+
 class Programs:
-    """the two programs, run in a folder of their own"""
+    """the programs, run in a folder of their own"""
 
     def __init__(self, files, work):
-        self.files, self.work, self.compared, self.failed = files, work, 0, 0
+        self.files, self.work = files, work
+        # captures on which replay and explain agree, captures on which orders does, and failing runs of one program
+        self.compared, self.listed, self.failed = 0, 0, 0
+        # of the captures that orders lists, those that are big-endian, and those with an unread rest
+        self.big, self.unread = 0, 0
 
-    def run(self, program, capture):
-        return subprocess.run([self.files[program]], input=capture, capture_output=True, cwd=self.work, timeout=60)
+    def run(self, program, capture, *arguments):
+        return subprocess.run([self.files[program], *arguments], input=capture, capture_output=True, cwd=self.work,
+                              timeout=60)
+
+    def run_in_shell(self, command, program, capture):
+        """a run by a command of the shell, in which "$0" is the program"""
+        return subprocess.run(['sh', '-c', command, self.files[program]], input=capture, capture_output=True,
+                              cwd=self.work, timeout=60)
 
     def differ(self, name, program, capture, wanted, ran):
         """ends the check: what was given and what came of it stays in a folder"""
@@ -341,43 +364,91 @@ class Programs:
             print(f'  row {at + 1} has to be: {wanted_rows[at]}\n  and is: {rows[at]}')
         sys.exit(1)
 
-    def fails(self, name, capture, number=None):
-        """each program ends with status 1 and only says why, with the number where the call is refused"""
-        for program in ('replay', 'explain'):
-            ran = self.run(program, capture)
-            said = ran.stderr.decode(errors='replace')
-            numbered = not number or re.search(rf'\b{number}\b', said)
-            if ran.returncode != 1 or ran.stdout or not said.strip() or not numbered:
-                self.differ(name, program, capture, b'', ran)
+    def gives(self, name, program, capture, wanted, *arguments):
+        """a run of a program ends with status 0 and gives what is wanted, which is answered"""
+        ran = self.run(program, capture, *arguments)
+        if ran.returncode != 0 or ran.stdout != wanted or ran.stderr:
+            self.differ(name, program, capture, wanted, ran)
+        return ran.stdout
+
+    def failed_with(self, name, program, capture, words, ran):
+        """a run of a program has ended with status 1, and has only said these words"""
+        if ran.returncode != 1 or ran.stdout or ran.stderr != f'{program}: {words}\n'.encode():
+            self.differ(f'{name}, which has to end with "{words}"', program, capture, b'', ran)
         self.failed += 1
 
+    def fails(self, name, capture, words, programs=('replay', 'explain')):
+        for program in programs:
+            self.failed_with(name, program, capture, words, self.run(program, capture))
+
+    def refuse(self, name, capture, number):
+        self.fails(name, capture, refusal(number, capture), ('replay', 'explain', 'orders'))
+
+    def lists(self, name, capture):
+        """orders gives what the model gives"""
+        self.gives(name, 'orders', capture, as_text(orders(capture)))
+        self.listed += 1
+        order, _, read = records(capture)
+        self.big += order == 'big'
+        self.unread += read < len(capture)
+
     def compare(self, name, pair, capture):
-        """both programs give what the model gives, which is answered as the text of explain"""
+        """the programs give what the model gives, which is answered as the text of explain"""
         (self.work / 'pair.key').write_bytes(pair)
         try:
             text = explain(pair, capture)
-        except Refused as refusal:
-            self.fails(name, capture, refusal.args[0])
+        except Refused as refused:
+            self.refuse(name, capture, refused.args[0])
             return []
         # explain first, because it tells where a difference begins
-        wanted = {'explain': '\n'.join(text + ['']).encode(), 'replay': replay(pair, capture)[0]}
-        for program, output in wanted.items():
-            ran = self.run(program, capture)
-            if ran.returncode != 0 or ran.stdout != output:
-                self.differ(name, program, capture, output, ran)
+        self.gives(name, 'explain', capture, as_text(text))
+        output = self.gives(name, 'replay', capture, replay(pair, capture)[0])
         self.compared += 1
+        self.lists(f'what replay gives on {name}', output)
+        # orders takes any capture, and some of these are big-endian or have an unread rest
+        self.lists(name, capture)
         return text
+
+    def rehearse(self):
+        """a rehearsal prints and saves what the model gives, and what it saved is a capture like others"""
+        text, heard = rehearsal()
+        file = 'heard.pcap'
+        text += f'What carriage A heard is in {file}.\nThe key of its pair is in {file}.key.\n'
+        self.gives('a rehearsal', 'rehearse', b'', text.encode(), '--capture', file)
+        saved, key = (self.work / file).read_bytes(), (self.work / f'{file}.key').read_bytes()
+        if saved != header() + b''.join(record(t, data) for t, data in heard) or key != PAIR:
+            sys.exit(f'what rehearse saves is not what the model gives: {saved.hex()} and the key {key.hex()}')
+        self.compare('the capture of a rehearsal', key, saved)
+
+    def want_of_memory(self):
+        """a limit of memory that is at most 16 kB below one that suffices ends a program in words"""
+        capture = filled(EXAMPLE, LONGEST)
+        wanted_of = dict(explain=as_text(explain(EXAMPLE_PAIR, capture)), orders=as_text(orders(capture)),
+                         replay=replay(EXAMPLE_PAIR, capture)[0])
+        for program, wanted in wanted_of.items():
+            # what suffices depends on the machine, and far below it the program is not even loaded
+            few, enough, last = 0, 2 ** 16, None
+            while enough - few > 16:
+                limit = (few + enough) // 2
+                ran = self.run_in_shell(f'ulimit -v {limit} && exec "$0"', program, capture)
+                if ran.returncode == 0 and ran.stdout == wanted:
+                    enough = limit
+                else:
+                    few, last = limit, ran
+            self.failed_with(f'{few} kB of memory', program, capture, 'there is not enough memory', last)
 
     def failures(self):
         key = self.work / 'pair.key'
         key.unlink()
-        self.fails('no pair.key', EXAMPLE)
+        self.fails('no pair.key', EXAMPLE, 'pair.key cannot be read: No such file or directory (os error 2); '
+                                           'it must be in this folder, and have 16 bytes')
         for length in (0, 15, 17, 32):
             key.write_bytes(bytes(length))
-            self.fails(f'pair.key of {length} bytes', EXAMPLE)
+            self.fails(f'pair.key of {length} bytes', EXAMPLE,
+                       f'pair.key must have 16 bytes, and has {length if length < 16 else "more"}')
         key.write_bytes(EXAMPLE_PAIR)
         for length in (LONGEST + 1, 2 * LONGEST, 10 ** 6):
-            self.fails(f'{length} bytes', EXAMPLE + bytes(length - len(EXAMPLE)), 21)
+            self.refuse(f'{length} bytes', EXAMPLE + bytes(length - len(EXAMPLE)), 21)
         wrong = {
             'no input': b'',
             'one byte': EXAMPLE[:1],
@@ -393,7 +464,18 @@ class Programs:
             'a text': b'records 4, bytes read 186 of 186',
         }
         for name, capture in wrong.items():
-            self.fails(name, capture, 21)
+            self.refuse(name, capture, 21)
+        for program in ('replay', 'explain', 'orders'):
+            for name, command, words in (
+                    ('a full device', 'exec "$0" >/dev/full',
+                     'standard output cannot be written: No space left on device (os error 28)'),
+                    ('a closed standard output', 'exec "$0" >&-',
+                     'standard output cannot be written: Bad file descriptor (os error 9)'),
+                    ('a closed standard input', 'exec "$0" <&-',
+                     'standard input cannot be read: Bad file descriptor (os error 9)')):
+                ran = self.run_in_shell(command, program, EXAMPLE)
+                self.failed_with(name, program, EXAMPLE, words, ran)
+        self.want_of_memory()
 
     def by_tcpdump(self):
         """another program reads the output on the sample; from standard input, as it may give up its rights to files"""
@@ -401,15 +483,15 @@ class Programs:
             return 'tcpdump is not installed, so it was not asked to read the output'
         shutil.copy(SAMPLE / 'pair.key', self.work)
         capture = (SAMPLE / 'carriage.pcap').read_bytes()
-        orders = len(records(replay((SAMPLE / 'pair.key').read_bytes(), capture)[0])[1])
+        proved = len(records(replay((SAMPLE / 'pair.key').read_bytes(), capture)[0])[1])
         output = self.run('replay', capture).stdout
         ran = subprocess.run(['tcpdump', '-nn', '-tt', '-r', '-'], input=output, capture_output=True, timeout=60)
         # a packet of a private link type is one line, with its bytes on indented lines behind it
         printed = [line for line in ran.stdout.decode(errors='replace').splitlines() if not line[:1].isspace()]
-        if ran.returncode or len(printed) != orders:
-            sys.exit(f'tcpdump ends with status {ran.returncode} and prints {len(printed)} packets, not {orders}:\n'
+        if ran.returncode or len(printed) != proved:
+            sys.exit(f'tcpdump ends with status {ran.returncode} and prints {len(printed)} packets, not {proved}:\n'
                      f'{ran.stderr.decode(errors="replace")}')
-        return f'tcpdump reads the output on the sample as {orders} packets'
+        return f'tcpdump reads the output on the sample as {proved} packets'
 
 
 def main():
@@ -417,7 +499,7 @@ def main():
     seed = int(sys.argv[2]) if len(sys.argv) > 2 else random.SystemRandom().randrange(2 ** 32)
     folder = pathlib.Path(sys.argv[3]).resolve() if len(sys.argv) > 3 else None
     files = {program: folder / program if folder else ROOT / 'crates' / program / 'out' / program
-             for program in ('replay', 'explain')}
+             for program in ('replay', 'explain', 'orders', 'rehearse')}
     for file in files.values():
         if not file.exists():
             sys.exit(f'{file} is not there')
@@ -427,6 +509,7 @@ def main():
         programs = Programs(files, pathlib.Path(work))
         for name, pair, capture in always():
             programs.compare(name, pair, capture)
+        programs.rehearse()
         texts = ['\n'.join(programs.compare(f'random capture {x + 1} of seed {seed}', *random_capture(rng)))
                  for x in range(count)]
         programs.failures()
@@ -437,7 +520,10 @@ def main():
         met = sorted({int(number) for text in texts for number in re.findall(r': refused (\d+),', text)})
         print(f'replays: of 100 random captures {joined} join and {proved} give true orders; '
               f'refusals met: {" ".join(map(str, met))}')
-    print(f'replays: {programs.compared} captures agree, {programs.failed} failures are as they have to be')
+    print(f'replays: of the captures that orders lists {programs.big} are big-endian and '
+          f'{programs.unread} have an unread rest')
+    print(f'replays: replay and explain agree with the model on {programs.compared} captures, orders on '
+          f'{programs.listed}, and {programs.failed} failing runs are as they have to be')
 
 
 if __name__ == '__main__':
