@@ -21,7 +21,7 @@ impl<B: Block, M: KeySource, D: KeySource> Base<B, M, D> {
         if !self.in_order(reading) {
             return Err(Refusal::ReadingOutOfOrder);
         }
-        if room < 48 {
+        if room < Answer::LENGTH {
             return Err(Refusal::BufferTooShort);
         }
         Ok(())

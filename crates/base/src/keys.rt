@@ -41,7 +41,7 @@ impl<B: Block, M: KeySource, D: KeySource> Base<B, M, D> {
         if due <= u64::from(self.disclosing.source.given()) {
             return Err(Refusal::NoKeyDue);
         }
-        if room < 19 {
+        if room < Disclosure::LENGTH {
             return Err(Refusal::BufferTooShort);
         }
         Ok(due as u32)

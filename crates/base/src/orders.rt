@@ -66,7 +66,7 @@ impl<B: Block, M: KeySource, D: KeySource> Base<B, M, D> {
         if self.made_in(interval) > 255 {
             return Err(Refusal::IntervalFull);
         }
-        if room < 12 + payload.len() {
+        if room < Data::LEAST + payload.len() {
             return Err(Refusal::BufferTooShort);
         }
         Ok(interval)

@@ -4,6 +4,7 @@ use inputs::Unread;
 use playback::Step;
 use std::fmt;
 
+// A replay's own counts are bounded by its buffer. These are only printed, and stop at the largest number.
 #[derive(Clone, Copy)]
 pub struct Tally {
     total: usize,

@@ -18,6 +18,10 @@ pub struct Request<'a> {
     pub nonce: &'a [u8; 8],
 }
 
+impl Request<'_> {
+    pub const LENGTH: usize = 9;
+}
+
 // A base answers with its time, the last key disclosed, that key's interval and when it began, how long an interval
 // lasts, and the disclosure delay.
 #[derive(Clone, Copy, Debug, PartialEq, Eq)]
@@ -31,6 +35,10 @@ pub struct Answer<'a> {
     pub tag: &'a [u8; 8],
 }
 
+impl Answer<'_> {
+    pub const LENGTH: usize = 48;
+}
+
 // An order of a base, with its running number in the interval.
 #[derive(Clone, Copy, Debug, PartialEq, Eq)]
 pub struct Data<'a> {
@@ -40,11 +48,23 @@ pub struct Data<'a> {
     pub tag: &'a [u8; 8],
 }
 
+impl Data<'_> {
+    // The length where the payload is empty.
+    pub const LEAST: usize = 12;
+
+    // The length where the payload is longest. No other packet is longer.
+    pub const MOST: usize = 76;
+}
+
 // A base discloses the key of an interval.
 #[derive(Clone, Copy, Debug, PartialEq, Eq)]
 pub struct Disclosure<'a> {
     pub interval: u16,
     pub key: &'a [u8; 16],
+}
+
+impl Disclosure<'_> {
+    pub const LENGTH: usize = 19;
 }
 
 #[derive(Clone, Copy, Debug, PartialEq, Eq)]

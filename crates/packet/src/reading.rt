@@ -16,7 +16,7 @@ pub fn read_request(bytes: &[u8]) -> Result<Request<'_>, Refusal>
     ensures { told request_said result ≡ read_request bytes.now }
 {
     match bytes {
-        [REQUEST, ..] if bytes.len() == 9 => Ok(Request {
+        [REQUEST, ..] if bytes.len() == Request::LENGTH => Ok(Request {
             nonce: part_at(bytes, 1),
         }),
         [REQUEST, ..] => Err(Refusal::WrongLength),
@@ -28,7 +28,7 @@ pub fn read_answer(bytes: &[u8]) -> Result<Answer<'_>, Refusal>
     ensures { told answer_said result ≡ read_answer bytes.now }
 {
     match bytes {
-        [ANSWER, ..] if bytes.len() == 48 => Ok(Answer {
+        [ANSWER, ..] if bytes.len() == Answer::LENGTH => Ok(Answer {
             time: u64::from_be_bytes(*part_at(bytes, 1)),
             key: part_at(bytes, 9),
             interval: u16::from_be_bytes(*part_at(bytes, 25)),
@@ -46,7 +46,7 @@ pub fn read_data(bytes: &[u8]) -> Result<Data<'_>, Refusal>
     ensures { told data_said result ≡ read_data bytes.now }
 {
     match bytes {
-        [DATA, ..] if matches!(bytes.len(), 12..=76) => Ok(Data {
+        [DATA, ..] if matches!(bytes.len(), Data::LEAST..=Data::MOST) => Ok(Data {
             interval: u16::from_be_bytes(*part_at(bytes, 1)),
             number: bytes[3],
             payload: &bytes[4..bytes.len() - 8],
@@ -61,7 +61,7 @@ pub fn read_key(bytes: &[u8]) -> Result<Disclosure<'_>, Refusal>
     ensures { told disclosure_said result ≡ read_key bytes.now }
 {
     match bytes {
-        [KEY, ..] if bytes.len() == 19 => Ok(Disclosure {
+        [KEY, ..] if bytes.len() == Disclosure::LENGTH => Ok(Disclosure {
             interval: u16::from_be_bytes(*part_at(bytes, 1)),
             key: part_at(bytes, 3),
         }),

@@ -88,11 +88,13 @@ fn length_of(packet: &Packet) -> Result<usize, Refusal>
     ensures { result ≡ (if short_enough (said packet.now) then Ok (packet_length (said packet.now)) else Err TooLong) }
 {
     match packet {
-        Packet::Request(_) => Ok(9),
-        Packet::Answer(_) => Ok(48),
-        Packet::Data(data) if data.payload.len() <= MAX_PAYLOAD => Ok(12 + data.payload.len()),
+        Packet::Request(_) => Ok(Request::LENGTH),
+        Packet::Answer(_) => Ok(Answer::LENGTH),
+        Packet::Data(data) if data.payload.len() <= MAX_PAYLOAD => Ok(
+            Data::LEAST + data.payload.len(),
+        ),
         Packet::Data(_) => Err(Refusal::TooLong),
-        Packet::Key(_) => Ok(19),
+        Packet::Key(_) => Ok(Disclosure::LENGTH),
     }
 }
 

@@ -13,7 +13,7 @@ use crate::stage::Stage;
 use capture::Record;
 use cipher::{Block, Key};
 use node::{Reading, Receiver, Requesting};
-use packet::{Packet, read};
+use packet::{Packet, Request, read};
 use refusal::Refusal;
 
 // Data are taken and keys offered; all else is passed over.
@@ -31,7 +31,7 @@ fn receive<B: Block>(receiver: &mut Receiver<B>, heard: &Record) -> Result<Outco
 
 const DRIFT: u32 = 10_000;
 
-// The first request makes the node that asks.
+// The first request makes the node that asks. Here and below the stage goes on with a refusal, so `?` cannot hand it on.
 fn ask<B: Block>(pair: Key, heard: &Record) -> (Stage<B>, Result<Outcome, Refusal>)
     ensures part { part_of result.0 ≡ asked_by pair (time (record_said heard.now)) (read_packet heard.now.bytes.now) }
     ensures outcome { outcome_said result.1 ≡ read_hearing B.make silent (time (record_said heard.now)) heard.now.bytes.now (read_packet heard.now.bytes.now) }
@@ -40,7 +40,7 @@ fn ask<B: Block>(pair: Key, heard: &Record) -> (Stage<B>, Result<Outcome, Refusa
         Ok(Packet::Request(request)) => {
             let nonce = *request.nonce;
             let at = Reading(heard.time());
-            let mut sent = [0; 9];
+            let mut sent = [0; Request::LENGTH];
             let (node, _) = Requesting::request(pair, nonce, at, DRIFT, &mut sent).unwrap();
             (Stage::Asking(node), Ok(Outcome::Asked))
         }

@@ -2,7 +2,8 @@
 
 #![tactic(auto)]
 
-ghost use Rattle.std.specs.Prelude.{◌≡◌};
+ghost use Rattle.std.specs.Prelude.{◌≡◌, Some};
+ghost use Rattle.refusal.specs.Meaning.{meaning_of, told_of};
 ghost use Rattle.refusal.specs.Number.{number_of};
 
 use std::fmt;
@@ -65,6 +66,8 @@ impl Refusal {
 
 // The refusal in plain words, for an operator.
 impl fmt::Display for Refusal {
+    ghost output = { λ r. Some (meaning_of r) };
+
     fn fmt<W: fmt::Write>(&self, f: &mut fmt::Formatter<W>) -> fmt::Result {
         match self {
             Refusal::NotThisKind => f.write_str("the packet is of no kind that this call takes"),
@@ -109,6 +112,8 @@ impl fmt::Display for Refusal {
 pub struct Numbered(pub Refusal);
 
 impl fmt::Display for Numbered {
+    ghost output = { λ n. Some (told_of n.0) };
+
     fn fmt<W: fmt::Write>(&self, f: &mut fmt::Formatter<W>) -> fmt::Result {
         let Numbered(refusal) = *self;
         let number = refusal.number();

@@ -1,9 +1,10 @@
 // The needle bed: a base whose two sources draw from one chain. It tells what it sends.
-use crate::sent::{MAX_PACKET, Sent};
+use crate::sent::Sent;
 use anyhow::anyhow;
 use base::{Base, Schedule};
 use chain::down;
 use cipher::{Key, Rc5};
+use packet::Data;
 use refusal::Numbered;
 use source::Pebbled;
 
@@ -52,7 +53,7 @@ impl Bed {
         time: u64,
         payload: &str,
     ) -> anyhow::Result<Sent> {
-        let mut buffer = [0; MAX_PACKET];
+        let mut buffer = [0; Data::MOST];
         let made = self.base.make(time, payload.as_bytes(), &mut buffer);
         let length = made.map_err(|refusal| anyhow!(
             "{time} base makes an order: {}",
@@ -63,7 +64,7 @@ impl Bed {
     }
 
     pub(crate) fn disclose(&mut self, rt: &HostRuntime, time: u64) -> anyhow::Result<Sent> {
-        let mut buffer = [0; MAX_PACKET];
+        let mut buffer = [0; Data::MOST];
         let disclosed = self.base.disclose(time, &mut buffer);
         let length = disclosed.map_err(|refusal| anyhow!(
             "{time} base discloses a key: {}",
@@ -85,7 +86,7 @@ impl Bed {
         pair: Key,
         asked: &Sent,
     ) -> anyhow::Result<Sent> {
-        let mut buffer = [0; MAX_PACKET];
+        let mut buffer = [0; Data::MOST];
         let answered = self.base.answer(time, pair, asked.packet(), &mut buffer);
         let length = answered.map_err(|_| anyhow!("the answer is refused"))?;
         Ok(Sent::front(rt.alloc(), &buffer, length)?)

@@ -2,12 +2,13 @@
 use crate::bed::Bed;
 use crate::recording::Recording;
 use crate::saving::write_file;
-use crate::sent::{MAX_PACKET, Sent};
+use crate::sent::Sent;
 use anyhow::anyhow;
 use byte_text::Readable;
 use cipher::{Key, Rc5};
+use link::PLACES;
 use node::{Reading, Receiver, Released, Requesting};
-use packet::MAX_PAYLOAD;
+use packet::{Data, MAX_PAYLOAD};
 use refusal::Numbered;
 use std::fmt;
 use std::fmt::Write;
@@ -16,9 +17,6 @@ const PAIR: Key = Key {
     high: 0x6361727269616765,
     low: 0x2d6f6e652d706169,
 };
-
-// A receiver holds at most so many packets.
-const PLACES: usize = 32;
 
 // How far a carriage's clock is ahead of the base's, or behind it where this is below 0.
 #[derive(Clone, Copy)]
@@ -74,7 +72,7 @@ impl Carriage {
         time: u64,
     ) -> anyhow::Result<Carriage> {
         let mut recording = Recording::new(rt.alloc())?;
-        let mut buffer = [0; MAX_PACKET];
+        let mut buffer = [0; Data::MOST];
         let at = clock.reading(time);
         let asking = Requesting::request(PAIR, time.to_be_bytes(), at, 1_000, &mut buffer);
         let (node, length) = asking.map_err(|_| anyhow!("the request is refused"))?;
@@ -152,7 +150,7 @@ impl Carriage {
     // Releases until none is left.
     fn let_out(&mut self, rt: &HostRuntime, time: u64) -> anyhow::Result<()> {
         let name = self.name;
-        // At most one release for each place, and then none: the count says that it ends.
+        // At most one release for each place, and then none.
         for _ in 0..=PLACES {
             let mut buffer = [0; MAX_PAYLOAD];
             let released = self.receiver.release(&mut buffer);

@@ -45,10 +45,10 @@ fn run(rt: &HostRuntime) -> anyhow::Result<()> {
         "the released lists differ"
     );
     println!(rt; "Both released lists are equal.")?;
-    match file {
-        Some(file) => rehearsal.a.save(rt, file.as_str()),
-        None => Ok(()),
+    if let Some(file) = file {
+        rehearsal.a.save(rt, file.as_str())?;
     }
+    Ok(())
 }
 
 fn main(rt: HostRuntime) -> anyhow::Result<()> {

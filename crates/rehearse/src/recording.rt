@@ -1,12 +1,12 @@
 // What a carriage sent and heard, as a capture.
-use crate::sent::MAX_PACKET;
 use anyhow::anyhow;
 use capture::{Header, Record, RecordFormat, Time};
 use node::Reading;
+use packet::Data;
 use std::alloc::Global;
 
-// A packet, and what stands before it.
-const ROOM: usize = Record::LEAD + MAX_PACKET;
+// The longest packet, and what stands before it.
+const ROOM: usize = Record::LEAD + Data::MOST;
 
 #[derive(Drop)]
 pub struct Recording {

@@ -1,7 +1,7 @@
 // The base and the two carriages that have joined, in one rehearsal.
 use crate::bed::Bed;
 use crate::carriage::Carriage;
-use crate::sent::{MAX_PACKET, Sent};
+use crate::sent::Sent;
 use anyhow::anyhow;
 use packet::{Data, Packet, write};
 
@@ -21,7 +21,7 @@ fn forged(rt: &HostRuntime) -> anyhow::Result<Sent> {
         payload: b"!",
         tag: &[0; 8],
     });
-    let mut buffer = [0; MAX_PACKET];
+    let mut buffer = [0; Data::MOST];
     let written = write(&order, &mut buffer);
     let length = written.map_err(|_| anyhow!("the forged order cannot be written"))?;
     Ok(Sent::front(rt.alloc(), &buffer, length)?)

@@ -3,9 +3,6 @@ use anyhow::anyhow;
 use packet::read_key;
 use std::alloc::{AllocError, Global};
 
-// The longest packet has 76 bytes.
-pub const MAX_PACKET: usize = 76;
-
 // A packet on its way.
 #[derive(Drop)]
 pub struct Sent {
@@ -13,7 +10,7 @@ pub struct Sent {
 }
 
 impl Sent {
-    // What a call wrote into the front of a buffer.
+    // What a call wrote into the front of a buffer. Each call words its refusal in its own way, so none is made in here.
     pub(crate) fn front(heap: Global, buffer: &[u8], length: usize) -> Result<Sent, AllocError> {
         let bytes = buffer[..length.min(buffer.len())].to_vec(heap)?;
         Ok(Sent { bytes })

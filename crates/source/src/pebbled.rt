@@ -18,7 +18,7 @@ mod size;
 // Level j has index j - 1. The places of the levels are known from how many keys were given.
 #[derive(Drop)]
 pub struct Pebbled<B: Block> {
-    // An array with room for the largest chain, since a source has no heap.
+    // An array with room for the largest chain, since this source uses no heap.
     levels: [Level<Key>; LEVELS],
     size: ChainSize,
     given: u32,

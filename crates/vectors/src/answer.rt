@@ -13,6 +13,7 @@ pub enum Verdict {
     Shown,
 }
 
+// No Result: a line that cannot be read has its answer in its place among the others.
 #[derive(Drop)]
 pub enum Answer<'a> {
     Passed(&'a str),
