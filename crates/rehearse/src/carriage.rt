@@ -29,7 +29,8 @@ impl Clock {
     }
 }
 
-// A released packet in words; the payload as text where it is text.
+// A released packet in words; the payload as text where it is text. The line of `explain` is another: it has the time, and
+// no payload of a false release.
 #[derive(Clone, Copy)]
 struct Order<'a> {
     released: Released,
@@ -150,7 +151,7 @@ impl Carriage {
     // Releases until none is left.
     fn let_out(&mut self, rt: &HostRuntime, time: u64) -> anyhow::Result<()> {
         let name = self.name;
-        // At most one release for each place, and then none.
+        // At most one release for each place, and then none: so it ends without a measure of what the receiver holds.
         for _ in 0..=PLACES {
             let mut buffer = [0; MAX_PAYLOAD];
             let released = self.receiver.release(&mut buffer);
