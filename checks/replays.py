@@ -435,6 +435,9 @@ class Programs:
                     enough = limit
                 else:
                     few, last = limit, ran
+            if last is None:
+                print(f'replays: no limit of memory stops {program} here, so its want of memory is not tried')
+                continue
             self.failed_with(f'{few} kB of memory', program, capture, 'there is not enough memory', last)
 
     def failures(self):
