@@ -8,7 +8,7 @@ use Rattle.cipher.specs.declared.key.Key.{Key}
 use Rattle.packet.specs.Writing.{filled}
 use Rattle.capture.specs.declared.forms.ByteOrder.TheVariants.{Little}
 use Rattle.capture.specs.declared.forms.Header.{Header}
-use Rattle.capture.specs.Format.{Record, capture_bytes, record_length}
+use Rattle.capture.specs.Format.{Record, capture_bytes, header_of, record_length}
 use Rattle.capture.specs.Reading.{read_header, records}
 use Rattle.playback.specs.declared.counts.Counts.{Counts}
 use Rattle.playback.specs.Steps.{orders}
@@ -45,7 +45,7 @@ total (x ∷ xs) = record_length x + total xs
 
 -- the header of the capture that comes out
 abbrev pub header_out : ℕ → Header
-header_out link = record { order = Little; zone = 0; accuracy = 0; longest = 256; link = link }
+header_out link = header_of Little 256 link
 
 -- the capture that comes out
 abbrev pub output : Key → Playable → List ℕ
