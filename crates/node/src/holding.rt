@@ -6,7 +6,7 @@ ghost use Rattle.packet.specs.Kinds.{Data as Packet, data_said};
 ghost use Rattle.link.specs.Clock.{Clock};
 ghost use Rattle.link.specs.Receiver.{world};
 ghost use Rattle.link.specs.Reception.{has};
-ghost use Rattle.node.specs.Places.{held, KnownFirst, slot_said};
+ghost use Rattle.node.specs.Places.{held, KnownFirst, nothing, slot_said};
 
 use crate::slot::Slot;
 use crate::table::Table;
@@ -80,7 +80,8 @@ impl Table {
     // The packets behind it move up, so that the order stays.
     pub(crate) fn remove(&mut self, place: usize)
         requires { place < length (held self.old) }
-        ensures { held self.new ≡ remove (held self.old) place }
+        ensures held { held self.new ≡ remove (held self.old) place }
+        ensures freed { (s : Slot) → slot_said (slice_index_or self.new.slots self.new.count s) ≡ nothing }
     {
         let count = self.count;
         let slots = &mut self.slots;

@@ -37,7 +37,7 @@ invariant_of-self-2 g c =
     let room = length c.args.out.now in
     let p = slot_said c.get-record.result in
     let right = c.is_right-verdict.ensures ∙ ap (right_now (world cipher (clock_of self.clock)) (meaning self).state) c.packet.ensures in
-    let done = release_then cipher r room c.in-Some.place p c.is_right-verdict.result (held c.remove.new.self) c.in-Some.ensures c.get-record.ensures c.if-out-lt-MAX_PAYLOAD.false right self.apart c.remove.ensures in
+    let done = release_then cipher r room c.in-Some.place p c.is_right-verdict.result (held c.remove.new.self) c.in-Some.ensures c.get-record.ensures c.if-out-lt-MAX_PAYLOAD.false right self.apart c.remove.ensures.held in
     let sound = sound_then cipher r (to_release room) _ done.1 (record { apart = self.apart; due = self.due }) in
     record { apart = sound.apart; due = self.due }
 
@@ -51,6 +51,6 @@ returns g c =
     let p = slot_said c.get-record.result in
     let v = c.is_right-verdict.result in
     let right = c.is_right-verdict.ensures ∙ ap (right_now (world cipher (clock_of self.clock)) (meaning self).state) c.packet.ensures in
-    let done = release_then cipher r (length before) c.in-Some.place p v (held c.remove.new.self) c.in-Some.ensures c.get-record.ensures c.if-out-lt-MAX_PAYLOAD.false right self.apart c.remove.ensures in
+    let done = release_then cipher r (length before) c.in-Some.place p v (held c.remove.new.self) c.in-Some.ensures c.get-record.ensures c.if-out-lt-MAX_PAYLOAD.false right self.apart c.remove.ensures.held in
     let said = told_as cipher r call (out_of p v) _ _ before c.let_out.new.out (answer_of cipher r call (releases p v) done.0) c.let_out.ensures.says c.let_out.ensures.length c.let_out.ensures.buffer in
     record { answer = said.answers; length = said.long; after = done.1; buffer = said.buffer }
