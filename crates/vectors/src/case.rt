@@ -103,19 +103,22 @@ fn under<F: FnOnce(&str) -> Result<Task, Trouble<Fault>>>(
     Ok(Case::Cipher(make, key, task(word)?))
 }
 
-fn table(heap: Global, words: &[&str]) -> Result<Case, Trouble<Fault>> {
-    let keys = words.iter().map(|word| key(heap, word)).try_collect(heap)?;
+// The keys that stand behind the first word of a line.
+fn table(heap: Global, text: &str) -> Result<Case, Trouble<Fault>> {
+    let words = text.split_whitespace().skip(1);
+    let keys = words.map(|word| key(heap, word)).try_collect(heap)?;
     Ok(Case::Table(keys))
 }
 
 // Reads a case: `rc5 KEY BLOCK`, `packet BYTES`, `table KEY KEY ..`, or a task with its cipher, key and last word.
 pub(crate) fn read(heap: Global, text: &str) -> Result<Case, Trouble<Fault>> {
-    let words = text.split_whitespace().collect::<Vec<&str>>(heap)?;
+    // Five words show that there are too many, except for a table, whose keys are read one by one.
+    let words = text.split_whitespace().take(5).collect::<Vec<&str>>(heap)?;
     match words.as_slice() {
         ["rc5", key, block] => encrypt(heap, Make::Rc5, key, block),
         ["adding", key, block] => encrypt(heap, Make::Adding, key, block),
         ["packet", bytes] => Ok(Case::Packet(message(heap, bytes)?)),
-        ["table", keys @ ..] => table(heap, keys),
+        ["table", ..] => table(heap, text),
         ["tag", operands @ ..] => under(heap, operands, |word| {
             Ok(Task::Tag(message(heap, word)?))
         }),
