@@ -7,6 +7,11 @@ use Rattle.std.proofs.lemmas.List.{take_all, drop_all, take_at, drop_at}
 use Rattle.cipher.specs.Blocks.{on_front}
 use Rattle.chain.specs.Tag.{◌⊕◌, filled, blocks_by, blocks, chained}
 
+pub xor_none : (xs : List ℕ) → xs ⊕ [] ≡ xs
+unfolding ◌⊕◌
+xor_none [] = refl
+xor_none (x ∷ xs) = refl
+
 pub length_xor : (xs ys : List ℕ) → length (xs ⊕ ys) ≡ length xs
 unfolding ◌⊕◌
 length_xor [] ys = refl
@@ -38,7 +43,7 @@ xor_zeros [] n = refl
 xor_zeros (x ∷ xs) zero = refl
 xor_zeros (x ∷ xs) (suc n) = λ i. xor_zero_r x i ∷ xor_zeros xs n i
 
-xor_filled : (xs ys : List ℕ) (n : ℕ) → xs ⊕ (ys ++ replicate n 0) ≡ xs ⊕ ys
+pub xor_filled : (xs ys : List ℕ) (n : ℕ) → xs ⊕ (ys ++ replicate n 0) ≡ xs ⊕ ys
 unfolding ◌⊕◌
 xor_filled [] ys n = refl
 xor_filled (x ∷ xs) [] n = xor_zeros (x ∷ xs) n

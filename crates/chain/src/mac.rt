@@ -3,7 +3,7 @@ ghost use Rattle.std.specs.Prelude.{◌≡◌, ◌-◌, ◌<◌, ◌≤◌, ◌+
 ghost use Rattle.refusal.specs.declared.Refusal.TheVariants.{TooLong};
 ghost use Rattle.cipher.specs.Blocks.{on_front};
 ghost use Rattle.cipher.specs.Bytes.{to_be};
-ghost use Rattle.chain.specs.Tag.{◌⊕◌, mac as chained_mac, tagged};
+ghost use Rattle.chain.specs.Tag.{◌⊕◌, filled, mac as chained_mac, tagged};
 
 use cipher::{Block, Key};
 use refusal::Refusal;
@@ -50,11 +50,23 @@ impl Message<'_> {
     }
 }
 
-// Joins bytes into the front of a state by exclusive or.
-fn joined(state: [u8; 16], bytes: &[u8]) -> [u8; 16]
-    ensures { result ≡ state ⊕ bytes.now }
+// A part of a message, a block or what is left, filled with zeros.
+fn filled(part: &[u8]) -> [u8; 16]
+    requires { length part.now ≤ 16 }
+    ensures { result ≡ filled 16 part.now }
 {
-    array::from_fn(|i| state[i] ^ bytes.get(i).copied().unwrap_or(0))
+    let mut block = [0; 16];
+    block[..part.len()].copy_from_slice(part);
+    block
+}
+
+// Joins a part of a message into the front of a state by exclusive or.
+fn joined(state: [u8; 16], part: &[u8]) -> [u8; 16]
+    requires { length part.now ≤ 16 }
+    ensures { result ≡ state ⊕ part.now }
+{
+    let block = filled(part);
+    array::from_fn(|i| state[i] ^ block[i])
 }
 
 // A length as a big-endian block, as wide as the cipher's blocks.
@@ -84,6 +96,7 @@ fn begun<B: Block>(cipher: &B, length: u16) -> [u8; 16]
 
 // Chains one more part of a message, a block or what is left.
 fn absorb<B: Block>(cipher: &B, state: &mut [u8; 16], part: &[u8])
+    requires { length part.now ≤ 16 }
     ensures { state.new ≡ on_front B.make.width (B.under cipher.now) (state.old ⊕ part.now) }
 {
     *state = cipher.encrypt(joined(*state, part));
