@@ -88,6 +88,15 @@ joins_packet cipher node t bytes = go (is_kind 2 bytes) refl
         let unread : asking node ≡ to = stays NotThisKind (rw e refl) in
         read_as (joined_by cipher node t bytes) to bytes (λ k p. unread) (λ k. absurd (true≢false (sym k ∙ e))) (λ p. unread) (λ p. unread) (λ r. unread)
 
+-- what reads as no packet leaves the node as it is
+unread_part : (cipher : Make) (pair : Key) (t : ℕ) (bytes : List ℕ) (part : Part) (r : Refusal) → Err r ≡ read_packet bytes → part ≡ heard_part cipher pair part t bytes
+unread_part cipher pair t bytes silent r e = ap (asked_by pair t) e ∙ asks_packet pair t bytes
+unread_part cipher pair t bytes (asking node) r e = ap (joined_by cipher node t bytes) e ∙ joins_packet cipher node t bytes
+unread_part cipher pair t bytes (receiving receiver) r e = ap (λ p. receiving (called cipher receiver (offers t bytes p))) e
+
+pub heard_unread : (cipher : Make) (pair : Key) (t : ℕ) (bytes : List ℕ) (part : Part) (r : Refusal) → Err r ≡ read_packet bytes → Heard cipher pair part t bytes part (answered (refused r))
+heard_unread cipher pair t bytes part r e = record { part = unread_part cipher pair t bytes part r e; outcome = ap (read_hearing cipher part t bytes) e }
+
 -- the node after bytes, by what they read as
 module _ (cipher : Make) (pair : Key) (t : ℕ) (bytes : List ℕ) (part before : Part) (outcome : Hearing) where
   pub heard_silent : before ≡ silent → part ≡ asked_by pair t (read_packet bytes) → outcome ≡ read_hearing cipher silent t bytes (read_packet bytes) → Heard cipher pair before t bytes part outcome

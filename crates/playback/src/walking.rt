@@ -14,7 +14,7 @@ use crate::step::Step;
 use crate::walk::Walk;
 use capture::{Records, Time};
 use cipher::{Block, Key};
-use packet::MAX_PAYLOAD;
+use packet::{MAX_PAYLOAD, read};
 use refusal::Refusal;
 use std::mem::replace;
 
@@ -67,6 +67,10 @@ impl<'a, B: Block> Walk<'a, B> {
         ensures quiet { (buffer : List ℕ) → step_wrote (told_step result buffer) ≡ [] }
     {
         let record = self.records.next()?;
+        // A record that is no packet leaves the stage as it is, and is not worth a move of it.
+        if let Err(refusal) = read(record.bytes) {
+            return Some(Step::Heard(record, Err(refusal)));
+        }
         let stage = replace(&mut self.stage, Stage::Silent);
         let (stage, outcome) = stage.hear(self.pair, &record);
         self.stage = stage;
