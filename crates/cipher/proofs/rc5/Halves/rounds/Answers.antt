@@ -1,7 +1,8 @@
-use Rattle.std.proofs.Common.{rules, ◌≡◌, length, [], drop, take, get_or, ◌-◌, refl, ◌∙◌, arith}
+use Rattle.std.proofs.Common.{rules, ◌≡◌, refl, arith}
 use Rattle.std.proofs.lemmas.Grind.{common_steps}
+use Rattle.std.proofs.lemmas.List.{get_or-take}
 use Rattle.std.specs.Simd.{first_chunks}
-use Rattle.cipher.specs.Rc5.{round, rounds}
+use Rattle.cipher.specs.Rc5.{rounds}
 use Rattle.cipher.proofs.Rc5Laws.{rounds_next}
 use Rattle.cipher.proofs.rc5.Halves.rounds.Goals as goal
 
@@ -15,5 +16,5 @@ loop-pair-preserved c =
     let pairs = c.as_chunks.result.0.now in
     let i = c.loop-pair.pair-index in
     let cut : pairs ≡ first_chunks 2 13 table = search rules in
-    let behind : take (length pairs - 1) (drop 1 pairs) ≡ drop 1 pairs = grind (arith, common_steps) in
-    c.round-halves.ensures ∙ (λ j. round 0 (get_or (behind j) i []) (c.loop-pair.invariant j)) ∙ rounds_next pairs i table _ cut (omega arith)
+    let next = rounds_next pairs i table c.args.self cut (omega arith) in
+    grind (arith, common_steps, get_or-take)
