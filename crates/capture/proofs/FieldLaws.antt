@@ -55,12 +55,12 @@ number_value Little bs all = to_from_le bs all
 number_value Big bs all = to_from_be bs all
 
 -- a number that is written is read again
-word_of : (o : ByteOrder) (bytes before : List ℕ) (x : ℕ) (after : List ℕ) (from : ℕ) → bytes ≡ before ++ (number o 4 x ++ after) → length before ≡ from → x < 2 ^ 32 → word_at o from bytes ≡ x
+pub word_of : (o : ByteOrder) (bytes before : List ℕ) (x : ℕ) (after : List ℕ) (from : ℕ) → bytes ≡ before ++ (number o 4 x ++ after) → length before ≡ from → x < 2 ^ 32 → word_at o from bytes ≡ x
 word_of o bytes before x after from e here small =
     word_is o from bytes ∙ ap (value o) (part_of bytes before _ after from 4 e here (length_number o 4 x)) ∙ value_number o 4 x small
 
 -- a number that is read is written as the bytes it was read from
-number_word : (o : ByteOrder) (bytes : List ℕ) (from : ℕ) → AllByRecursion Byte bytes → from + 4 ≤ length bytes → number o 4 (word_at o from bytes) ≡ part from 4 bytes
+pub number_word : (o : ByteOrder) (bytes : List ℕ) (from : ℕ) → AllByRecursion Byte bytes → from + 4 ≤ length bytes → number o 4 (word_at o from bytes) ≡ part from 4 bytes
 number_word o bytes from all room =
     (λ i. number o (sym (length_part bytes from 4 room) i) (word_is o from bytes i)) ∙ number_value o (part from 4 bytes) (All-take Byte 4 _ (All-drop Byte from bytes all))
 

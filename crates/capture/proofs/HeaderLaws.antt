@@ -28,7 +28,7 @@ header_long : (h : Header) (bytes rest : List ℕ) → bytes ≡ header_bytes h 
 header_long h bytes rest e = grind (arith, length-append, length_header_bytes)
 
 -- the marks of a header come first
-header_marks : (h : Header) (bytes rest : List ℕ) → bytes ≡ header_bytes h ++ rest → begins_with (marks h.order) bytes ≡ true
+pub header_marks : (h : Header) (bytes rest : List ℕ) → bytes ≡ header_bytes h ++ rest → begins_with (marks h.order) bytes ≡ true
 unfolding header_bytes
 header_marks h bytes rest e = grind (arith, begins_from, append_assoc)
 
@@ -37,7 +37,7 @@ marks_first : (o : ByteOrder) (bytes : List ℕ) → begins_with (marks o) bytes
 marks_first o bytes h = grind (arith, begins_split, take_at, length_marks)
 
 -- bytes that begin with the marks, and are long enough, begin with a header
-header_again : (o : ByteOrder) (bytes : List ℕ) → AllByRecursion Byte bytes → 24 ≤ length bytes → begins_with (marks o) bytes ≡ true → header_bytes (header_at o bytes) ≡ take 24 bytes
+pub header_again : (o : ByteOrder) (bytes : List ℕ) → AllByRecursion Byte bytes → 24 ≤ length bytes → begins_with (marks o) bytes ≡ true → header_bytes (header_at o bytes) ≡ take 24 bytes
 unfolding header_bytes
 header_again o bytes all room h = words_again o (marks o) 8 bytes all (omega arith) (sym (marks_first o bytes h))
 

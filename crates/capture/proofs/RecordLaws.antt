@@ -87,7 +87,7 @@ complete_from o l r bytes rest fit small e =
     record { lead = omega arith; time = omega arith; short = omega arith; uncut = stored ∙ sym original; whole = omega arith }
 
 -- a record that stands there is regular, and its bytes come first
-record_split : (o : ByteOrder) (l : ℕ) (bytes : List ℕ) → Stands o l bytes ≡ true → RecordForm o l bytes (Some (record_at o bytes))
+pub record_split : (o : ByteOrder) (l : ℕ) (bytes : List ℕ) → Stands o l bytes ≡ true → RecordForm o l bytes (Some (record_at o bytes))
 record_split o l bytes t =
     let r = record_at o bytes in
     let both = and_parts _ _ t in

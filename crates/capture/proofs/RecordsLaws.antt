@@ -29,10 +29,10 @@ unfolding records records_within
 records_onward o l [] = grind (arith, read_long o l [])
 records_onward o l (b ∷ bytes) = grind (arith, read_long o l (b ∷ bytes), within_same)
 
-records_none : (o : ByteOrder) (l : ℕ) (bytes : List ℕ) → read_record o l bytes ≡ None → records o l bytes ≡ []
+pub records_none : (o : ByteOrder) (l : ℕ) (bytes : List ℕ) → read_record o l bytes ≡ None → records o l bytes ≡ []
 records_none o l bytes e = grind (arith, records_onward)
 
-records_one : (o : ByteOrder) (l : ℕ) (bytes : List ℕ) (r : Record) → read_record o l bytes ≡ Some r → records o l bytes ≡ r ∷ records o l (drop (record_length r) bytes)
+pub records_one : (o : ByteOrder) (l : ℕ) (bytes : List ℕ) (r : Record) → read_record o l bytes ≡ Some r → records o l bytes ≡ r ∷ records o l (drop (record_length r) bytes)
 records_one o l bytes r e = grind (arith, records_onward)
 
 -- what was written, one record after another, is read so

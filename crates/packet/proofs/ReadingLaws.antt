@@ -1,14 +1,17 @@
 -- What reading answers of byte strings that begin with their kind and have its length.
 use Rattle.std.proofs.Common.{◌≡◌, ℕ, ◌<◌, ◌≤◌, true, List, length, get_or, Ok, arith}
 use Rattle.std.proofs.lemmas.Bool.Decides.{nat_tests}
-use Rattle.packet.specs.Kinds.{an_answer, a_data, a_key}
-use Rattle.packet.specs.Reading.{is_kind, of_length, answer_of, data_of, disclosure_of, read_packet}
+use Rattle.packet.specs.Kinds.{a_request, an_answer, a_data, a_key}
+use Rattle.packet.specs.Reading.{is_kind, of_length, request_of, answer_of, data_of, disclosure_of, read_packet}
 
 pub this_kind : (kind : ℕ) (bytes : List ℕ) → 0 < length bytes → get_or bytes 0 0 ≡ kind → is_kind kind bytes ≡ true
 this_kind kind bytes some first = grind (arith, nat_tests)
 
 pub of_length_yes : {P : Type 0} (low high : ℕ) (fields : List ℕ → P) (bytes : List ℕ) → low ≤ length bytes → length bytes ≤ high → of_length low high fields bytes ≡ Ok (fields bytes)
 of_length_yes low high fields bytes l h = grind (arith, nat_tests)
+
+pub reads_request : (bytes : List ℕ) → length bytes ≡ 9 → get_or bytes 0 0 ≡ 1 → read_packet bytes ≡ Ok (a_request (request_of bytes))
+reads_request bytes long first = grind (arith, nat_tests)
 
 pub reads_answer : (bytes : List ℕ) → length bytes ≡ 48 → get_or bytes 0 0 ≡ 2 → read_packet bytes ≡ Ok (an_answer (answer_of bytes))
 reads_answer bytes long first = grind (arith, nat_tests)

@@ -14,7 +14,7 @@ use Rattle.packet.proofs.LayoutLaws.{length_packet_bytes}
 use Rattle.packet.proofs.ReadBack.{read_back, Of, read_made}
 
 -- a packet that fits is written as its bytes
-fits_writes : (p : Packet) → Fits p → Writes p (packet_bytes p)
+pub fits_writes : (p : Packet) → Fits p → Writes p (packet_bytes p)
 fits_writes (a_request p) f out room = grind (arith, nat_tests, length_packet_bytes (a_request p) f)
 fits_writes (an_answer p) f out room = grind (arith, nat_tests, length_packet_bytes (an_answer p) f)
 fits_writes (a_data p) f out room = grind (arith, nat_tests, length_packet_bytes (a_data p) f)

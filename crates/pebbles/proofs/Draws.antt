@@ -1,10 +1,15 @@
 -- What the calls from some state on give, and how the state goes on.
-use Rattle.std.proofs.Common.{◌≡◌, ℕ, zero, suc, ◌+◌, ◌-◌, ◌*◌, ◌%◌, ◌^◌, ◌<◌, ◌≤◌, ◌∷◌, map, count_by, sym, refl, ap, ◌∙◌, ap₂, add-one, arith}
+use Rattle.std.proofs.Common.{◌≡◌, ℕ, zero, suc, ◌+◌, ◌-◌, ◌*◌, ◌%◌, ◌^◌, ◌<◌, ◌≤◌, ◌∷◌, map, length, count_by, sym, refl, ap, ◌∙◌, ap₂, add-one, arith}
 use Rattle.std.specs.List.{range_with_len}
 use Rattle.pebbles.specs.Draws.{Placed, draws, or_else, same, steps_after}
 use Rattle.pebbles.specs.Levels.{Gives, Levels, call, key_at, levels_after, moves}
 use Rattle.pebbles.proofs.Bare.{bare_count, placed_after}
 use Rattle.pebbles.proofs.Runs.{run, steps_counted}
+
+pub length_draws : {X : Type 0} (step : X → X) (d : X) (n c g : ℕ) (ls : Levels X) → length (draws step d n c g ls) ≡ c
+unfolding draws
+length_draws step d n zero g ls = refl
+length_draws step d n (suc c) g ls = ap suc (length_draws step d n c (g + 1) (call step n (g + 1) ls).levels)
 
 -- a call gives the first of them, and leaves the others
 pub draws_next : {X : Type 0} (step : X → X) (d : X) (n c g : ℕ) (ls after : Levels X) (key : X) (taken : ℕ) → Gives (call step n (g + 1) ls) key taken after
